@@ -1,0 +1,10 @@
+pub mod Newest
+pub mod Walk
+pub mod Places
+pub mod Fits
+pub mod Cells
+pub mod Links
+pub mod Stands
+pub mod Packed
+pub mod Pushed
+pub mod Reading

@@ -1,0 +1,5 @@
+pub mod Limits
+pub mod Outcomes
+pub mod Codes
+pub mod Trees
+pub mod Store
