@@ -8,3 +8,5 @@ pub mod Stands
 pub mod Packed
 pub mod Pushed
 pub mod Reading
+pub mod Interned
+pub mod Surveys

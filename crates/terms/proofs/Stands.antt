@@ -36,6 +36,23 @@ used-push : (m : List Tree) (t : Tree) → used (m ++ t ∷ []) ≡ used m + len
 used-push [] t = omega arith
 used-push (u ∷ m) t = omega (arith, used-push m t)
 
+pub parts-many : (m : List Tree) (c : Cell) → Proper m c → length (parts (tree-of m c)) ≡ length (c .handles)
+parts-many m c p = ap length (parts-of m c p) ∙ length-map (c .handles) (λ k. getD m k nil)
+
+-- a tree whose cell stands nowhere is not held
+pub not-held : (pool : List ℕ) (es : List Entry) (hd : List ℕ) (s : Sound pool es hd) (c : Cell) → Proper (held pool es) c → ((k : ℕ) → k < length es → Is-at pool es c k → ⊥) → length (held pool es) ≤ handle (held pool es) (tree-of (held pool es) c)
+not-held pool es hd s c proper fresh =
+    let m = held pool es in
+    let t = tree-of m c in
+    let k = handle m t in
+    ⊎-elim
+    (λ (l : k < length m).
+      let i : k < length es = omega (arith, length-held pool es) in
+      let same = sym (own-tree pool es (s .kept) (s .fitted) k i) ∙ handle-hit m t l in
+      absurd (fresh k i (same-cell m (cell-of pool (getD es k vacant)) c (s .sole) (own-proper pool es (s .kept) (s .fitted) k i) proper same)))
+    (λ (l : length m ≤ k). l)
+    (cases-lt k (length m))
+
 -- One more entry
 
 module _ (pool : List ℕ) (es : List Entry) (hd : List ℕ) (s : Sound pool es hd) (e : Entry) (ns : List ℕ)
@@ -134,19 +151,6 @@ module _ (pool : List ℕ) (es : List Entry) (hd : List ℕ) (s : Sound pool es 
         (λ i l. subst (λ (x : Entry). (x .facts .height ≤ 64) × (count (x .node) ≤ 256)) (sym (old-entry i l)) (s .low i l))
         (subst (λ (x : Entry). (x .facts .height ≤ 64) × (count (x .node) ≤ 256)) (sym new-entry) (high, few))
 
-    -- a tree whose cell stands nowhere is not held
-    pub not-held : length (held pool es) ≤ handle (held pool es) (tree-of (held pool es) (cell (e .node) ns))
-    not-held =
-        let m = held pool es in
-        let k = handle m new-tree in
-        ⊎-elim
-        (λ (l : k < length m).
-        let i : k < length es = omega (arith, length-held pool es) in
-        let same = sym (own-tree pool es (s .kept) (s .fitted) k i) ∙ handle-hit m new-tree l in
-        absurd (fresh k i (same-cell m (cell-of pool (getD es k vacant)) (cell (e .node) ns) (s .sole) (own-proper pool es (s .kept) (s .fitted) k i) proper same)))
-        (λ (l : length m ≤ k). l)
-        (cases-lt k (length m))
-
     sole′ : One-handle (held (pool ++ ns) (es ++ e ∷ []))
     sole′ =
         subst (λ m. One-handle m) (sym held-push) (λ i l.
@@ -155,19 +159,16 @@ module _ (pool : List ℕ) (es : List Entry) (hd : List ℕ) (s : Sound pool es 
         (λ (z : i ≡ length m).
         ap (λ k. handle (m ++ new-tree ∷ []) (getD (m ++ new-tree ∷ []) k nil)) z
         ∙ ap (handle (m ++ new-tree ∷ [])) (getD-push m new-tree nil (length m) refl)
-        ∙ handle-new m new-tree not-held ∙ sym z)
+        ∙ handle-new m new-tree (not-held pool es hd s (cell (e .node) ns) proper fresh) ∙ sym z)
         (λ (z : i < length m).
         let own : handle m (getD m i nil) ≡ i = s .sole i z in
         ap (handle (m ++ new-tree ∷ [])) (getD-append-left m (new-tree ∷ []) nil i z)
         ∙ handle-more m (new-tree ∷ []) (getD m i nil) (omega arith) ∙ own)
         (last-or i (length m) (omega (arith, length-push m new-tree))))
 
-    pub parts-new : length (parts (tree-of (held pool es) (cell (e .node) ns))) ≡ length ns
-    parts-new = ap length (parts-of (held pool es) (cell (e .node) ns) proper) ∙ length-map ns (λ k. getD (held pool es) k nil)
-
     counted′ : length (pool ++ ns) ≡ used (held (pool ++ ns) (es ++ e ∷ []))
     counted′ =
-        omega (arith, length-append pool ns, s .counted, ap used held-push, used-push (held pool es) new-tree, parts-new)
+        omega (arith, length-append pool ns, s .counted, ap used held-push, used-push (held pool es) new-tree, parts-many (held pool es) (cell (e .node) ns) proper)
 
     pub sound-push : e .hash % length hd < length hd → e .next ≡ newest (on-bucket es (length hd) (e .hash % length hd)) (length es) → length (set hd (e .hash % length hd) (length es + 1)) ≡ length hd → Sound (pool ++ ns) (es ++ e ∷ []) (set hd (e .hash % length hd) (length es + 1))
     sound-push room link size =

@@ -1,6 +1,7 @@
 // What the forms of terms mean to the store: sorts, what a head takes, and what is found of a leaf.
 ghost use mathlib.Core.Path.{_≡_};
 ghost use Prim.Native.Nat.{ℕ, _≤_};
+ghost use Rattle.terms.specs.Survey.{beside, topped};
 ghost use Rattle.theory.specs.Trees.{leaf, var-sort, leaf-sort, head-sort, node-sort, element, only, both, wants as wanted, least, takes, weight, opens, facts, leaf-flags, reach, var-flags, free, is-argument, is-alias, same-sort};
 use theory::ArgSort;
 use theory::Facts;
@@ -243,5 +244,30 @@ pub fn binders_of(head: Head) -> u64
     match head {
         Head::Function(_) | Head::Predicate(_, _) => 1,
         _ => 0,
+    }
+}
+
+// What is found of two terms in a row.
+pub fn join_facts(a: Facts, b: Facts) -> Facts
+    ensures { λ r. ⌜ r ≡ beside a b ⌝ }
+{
+    Facts {
+        height: a.height.max(b.height),
+        flags: Flags {
+            bits: a.flags.bits | b.flags.bits,
+        },
+        outer: a.outer.max(b.outer),
+    }
+}
+
+// What is found of a head over a row.
+pub fn top_facts(head: Head, row: Facts) -> Facts
+    requires { ⌜ row .height ≤ 64 ⌝ }
+    ensures { λ r. ⌜ r ≡ topped head row ⌝ }
+{
+    Facts {
+        height: weight_of(head) + row.height,
+        flags: row.flags,
+        outer: row.outer.saturating_sub(binders_of(head)),
     }
 }
