@@ -79,7 +79,7 @@ pub length-grown : (m : List Tree) (cs : List Cell) → length (grown m cs) ≡ 
 length-grown m [] = omega arith
 length-grown m (c ∷ cs) = omega (arith, length-grown (m ++ tree-of m c ∷ []) cs, length-push m (tree-of m c))
 
-grown-front : (m : List Tree) (cs : List Cell) → take (length m) (grown m cs) ≡ m
+pub grown-front : (m : List Tree) (cs : List Cell) → take (length m) (grown m cs) ≡ m
 grown-front m [] = take-all (length m) m (omega arith)
 grown-front m (c ∷ cs) =
     let t = tree-of m c in

@@ -10,3 +10,5 @@ pub mod Pushed
 pub mod Reading
 pub mod Interned
 pub mod Surveys
+pub mod Cuts
+pub mod Shortened

@@ -9,7 +9,7 @@ use Rattle.std.proofs.shelf.Lists.{length-take-le}
 use Rattle.theory.specs.Store.{One-handle, used as parts-held}
 use Rattle.terms.specs.declared.memory.entry.Entry.{Entry}
 use Rattle.terms.specs.declared.store.Store.{Store}
-use Rattle.terms.specs.Memory.{held, Kept, Fitted, Known, Deep, Low}
+use Rattle.terms.specs.Memory.{held, Kept, Placed, Fitted, Known, Deep, Low}
 use Rattle.terms.specs.Chains.{Heads, Nexts}
 use Rattle.terms.proofs.Stands.{Sound}
 
@@ -35,17 +35,18 @@ Facts-of es hd xs len used limit room =
     × (Heads (take len es) hd
     × (Nexts (take len es) (length hd)
     × (Kept (take used xs) (take len es)
+    × (Placed (take used xs) (take len es)
     × (Fitted (take used xs) (take len es)
     × (Known (take used xs) (take len es)
     × (Deep (take used xs) (take len es)
     × (Low (take len es)
     × (One-handle (held (take used xs) (take len es))
-    × ((used ≡ parts-held (held (take used xs) (take len es))) × Unit {0})))))))))))))))
+    × ((used ≡ parts-held (held (take used xs) (take len es))) × Unit {0}))))))))))))))))
 
 pub packed : (es : List Entry) (hd xs : List ℕ) (len used limit room : ℕ) → Room (length es) (length hd) (length xs) len used limit room → Sound (take used xs) (take len es) hd → Facts-of es hd xs len used limit room
 packed es hd xs len used limit room r s =
     let l : used ≤ length xs = omega (arith, r .inside, r .lent-items) in
-    (r .within, (r .few, (r .lent, (r .indexed, (r .inside, (r .few-items, (r .lent-items, (s .firsts, (s .others, (s .kept, (s .fitted, (s .known, (s .deep, (s .low, (s .sole, (sym (length-take-le used xs l) ∙ s .counted, tt))))))))))))))))
+    (r .within, (r .few, (r .lent, (r .indexed, (r .inside, (r .few-items, (r .lent-items, (s .firsts, (s .others, (s .kept, (s .placed, (s .fitted, (s .known, (s .deep, (s .low, (s .sole, (sym (length-take-le used xs l) ∙ s .counted, tt)))))))))))))))))
 
 pub room-of : (s : Store) → Room (length (now (s .entries))) (length (now (s .buckets))) (length (now (s .items))) (s .len) (s .used) (s .limit) (s .room)
 room-of s =
@@ -66,6 +67,7 @@ sound-of s =
       firsts = s .firsts;
       others = s .others;
       kept = s .kept;
+      placed = s .placed;
       fitted = s .fitted;
       known = s .known;
       deep = s .deep;

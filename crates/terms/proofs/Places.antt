@@ -119,3 +119,14 @@ handles-back m (n ∷ ns) one b =
     let e : handle m (getD m n nil) ≡ n = one n (b .0) in
     let r : map (handle m) (trees-at m ns) ≡ ns = handles-back m ns one (b .1) in
     rw (e, r) refl
+
+-- a tree that stands in the front has its handle there
+pub handle-front : (m us : List Tree) (t : Tree) → handle (m ++ us) t < length m → handle m t ≡ handle (m ++ us) t
+handle-front [] us t l = absurd (omega arith)
+handle-front (u ∷ m) us t l =
+    ⊎-elim
+    (λ y. cond-true (test (tree? u t)) 0 _ y ∙ sym (cond-true (test (tree? u t)) 0 _ y))
+    (λ n.
+      let e : handle (u ∷ m ++ us) t ≡ suc (handle (m ++ us) t) = cond-false (test (tree? u t)) 0 _ n in
+      cond-false (test (tree? u t)) 0 _ n ∙ ap suc (handle-front m us t (omega (arith, e))) ∙ sym e)
+    (cases-bool (test (tree? u t)))

@@ -14,7 +14,7 @@ use Rattle.theory.specs.Trees.{Tree, leaf, nil, parts, height, flags, outer, fa
 use Rattle.theory.specs.Store.{handle, One-handle, used}
 use Rattle.terms.specs.declared.memory.entry.Entry.{Entry}
 use Rattle.terms.specs.Hash.{hashed}
-use Rattle.terms.specs.Memory.{Cell, count, cell, cell-of, vacant, tree-of, grown, held, Within, fits, handles-at, Kept, Fitted, Known, Deep, Low}
+use Rattle.terms.specs.Memory.{Cell, count, cell, cell-of, vacant, tree-of, grown, held, Within, fits, handles-at, Kept, Placed, Fitted, Known, Deep, Low}
 use Rattle.terms.specs.Chains.{newest, on-bucket, Heads, Nexts, Is-at}
 use Rattle.terms.proofs.Places.{trees-at, handle-le, handle-hit, handle-more, handle-new}
 use Rattle.terms.proofs.Cells.{Proper, cells, cell-more, cells-more, grown-push, length-held, own-proper, own-tree, same-cell, parts-of}
@@ -25,6 +25,7 @@ pub record Sound (pool : List ℕ) (es : List Entry) (hd : List ℕ) : Type 0 wh
   pub firsts : Heads es hd
   pub others : Nexts es (length hd)
   pub kept : Kept pool es
+  pub placed : Placed pool es
   pub fitted : Fitted pool es
   pub known : Known pool es
   pub deep : Deep pool es
@@ -32,7 +33,7 @@ pub record Sound (pool : List ℕ) (es : List Entry) (hd : List ℕ) : Type 0 wh
   pub sole : One-handle (held pool es)
   pub counted : length pool ≡ used (held pool es)
 
-used-push : (m : List Tree) (t : Tree) → used (m ++ t ∷ []) ≡ used m + length (parts t)
+pub used-push : (m : List Tree) (t : Tree) → used (m ++ t ∷ []) ≡ used m + length (parts t)
 used-push [] t = omega arith
 used-push (u ∷ m) t = omega (arith, used-push m t)
 
@@ -113,6 +114,14 @@ module _ (pool : List ℕ) (es : List Entry) (hd : List ℕ) (s : Sound pool es 
   old-trees : (i : ℕ) → i ≤ length es → take i (held pool es ++ new-tree ∷ []) ≡ take i (held pool es)
   old-trees i l = take-append-le i (held pool es) (new-tree ∷ []) (omega (arith, length-held pool es))
 
+  placed′ : Placed (pool ++ ns) (es ++ e ∷ [])
+  placed′ =
+      subst (λ m. (i : ℕ) → i < length (es ++ e ∷ []) → getD (es ++ e ∷ []) i vacant .first ≡ used (take i m)) (sym held-push)
+      (each (λ i. getD (es ++ e ∷ []) i vacant .first ≡ used (take i (held pool es ++ new-tree ∷ [])))
+        (λ i l. ap (λ (x : Entry). x .first) (old-entry i l) ∙ s .placed i l ∙ ap used (sym (old-trees i (omega arith))))
+        ( ap (λ (x : Entry). x .first) new-entry ∙ first ∙ s .counted
+        ∙ ap used (sym (old-trees (length es) (omega arith) ∙ take-all (length es) (held pool es) (omega (arith, length-held pool es)))) ))
+
   fitted′ : Fitted (pool ++ ns) (es ++ e ∷ [])
   fitted′ =
       subst (λ m. (i : ℕ) → i < length (es ++ e ∷ []) → fits (take i m) (getD (es ++ e ∷ []) i vacant .node) (handles-at (pool ++ ns) (es ++ e ∷ []) i) ≡ true) (sym held-push)
@@ -176,6 +185,7 @@ module _ (pool : List ℕ) (es : List Entry) (hd : List ℕ) (s : Sound pool es 
           firsts = heads-push es e hd room (s .firsts);
           others = subst (λ k. Nexts (es ++ e ∷ []) k) (sym size) (nexts-push es e (length hd) link (s .others));
           kept = kept′;
+          placed = placed′;
           fitted = fitted′;
           known = known′;
           deep = deep′;

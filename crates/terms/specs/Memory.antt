@@ -14,7 +14,7 @@ use Rattle.theory.specs.declared.words.Node.the-variants.{Leaf as A-Leaf, Over}
 use Rattle.theory.specs.declared.words.StoreFault.{StoreFault}
 use Rattle.theory.specs.Limits.{highest, longest}
 use Rattle.theory.specs.Trees.{Tree, leaf, nil, assembled, height, flags, outer}
-use Rattle.theory.specs.Store.{checked}
+use Rattle.theory.specs.Store.{checked, used}
 use Rattle.terms.specs.declared.memory.entry.Entry.{Entry}
 use Rattle.terms.specs.Hash.{hashed}
 
@@ -85,6 +85,10 @@ handles-at pool es i = cell-of pool (getD es i vacant) .handles
 abbrev pub Kept : List ℕ → List Entry → Type 0
 Kept pool es =
     (i : ℕ) → i < length es → Within pool (getD es i vacant) × (getD es i vacant .hash ≡ hashed (getD es i vacant .node) (handles-at pool es i))
+
+-- its parts stand right behind those of the entries before it
+abbrev pub Placed : List ℕ → List Entry → Type 0
+Placed pool es = (i : ℕ) → i < length es → getD es i vacant .first ≡ used (take i (held pool es))
 
 -- its parts stand before it, and fit its form
 abbrev pub Fitted : List ℕ → List Entry → Type 0

@@ -1,13 +1,15 @@
 // A store of terms in memory that the caller lends. It never allocates.
 mod adds;
 mod calls;
+mod cuts;
+mod makes;
 
 ghost use mathlib.Core.Path.{_≡_};
 ghost use Prim.Native.Nat.{ℕ, _+_, _*_, _≤_, _<_};
 ghost use denote.Ref.{now};
 ghost use lib.ListN.{length, take};
 ghost use Rattle.theory.specs.Store.{One-handle, used as parts-held};
-ghost use Rattle.terms.specs.Memory.{held, Kept, Fitted, Known, Deep, Low};
+ghost use Rattle.terms.specs.Memory.{held, Kept, Placed, Fitted, Known, Deep, Low};
 ghost use Rattle.terms.specs.Chains.{Heads, Nexts};
 use crate::memory::Entry;
 use theory::Handle;
@@ -32,6 +34,7 @@ pub struct Store<'a> {
     ghost firsts: { Heads (take len (now entries)) (now buckets) },
     ghost others: { Nexts (take len (now entries)) (length (now buckets)) },
     ghost kept: { Kept (take used (now items)) (take len (now entries)) },
+    ghost placed: { Placed (take used (now items)) (take len (now entries)) },
     ghost fitted: { Fitted (take used (now items)) (take len (now entries)) },
     ghost known: { Known (take used (now items)) (take len (now entries)) },
     ghost deep: { Deep (take used (now items)) (take len (now entries)) },
