@@ -82,8 +82,8 @@ module _ (pool : List ℕ) (es : List Entry) (hd : List ℕ) (s : Sound pool es 
   pub held-cut : held (take (getD es n vacant .first) pool) (take n es) ≡ take n (held pool es)
   held-cut =
       let same : cells (take f pool) (take n es) ≡ cells pool (take n es) =
-          sym (cells-more (take f pool) (drop f pool) (take n es) (λ i l. subst (λ x. Within (take f pool) x) (sym (old i (omega (arith, fewer)))) (within i (omega (arith, fewer)))))
-          ∙ ap (λ xs. cells xs (take n es)) (take-append-drop f pool)
+      sym (cells-more (take f pool) (drop f pool) (take n es) (λ i l. subst (λ x. Within (take f pool) x) (sym (old i (omega (arith, fewer)))) (within i (omega (arith, fewer)))))
+      ∙ ap (λ xs. cells xs (take n es)) (take-append-drop f pool)
       in
       let z : 0 + n ≡ n = omega arith in
       ap (grown []) (same ∙ sym (take-map (cell-of pool) n es))
@@ -104,40 +104,42 @@ module _ (pool : List ℕ) (es : List Entry) (hd : List ℕ) (s : Sound pool es 
         others = subst (λ k. Nexts (take n es) k) (sym (length-set hd (bucket es (length hd) n) (getD es n vacant .next))) (nexts-cut es n (omega arith) (length hd) (s .others));
         kept =
             each (λ i. Within (take f pool) (getD (take n es) i vacant) × (getD (take n es) i vacant .hash ≡ hashed (getD (take n es) i vacant .node) (handles-at (take f pool) (take n es) i)))
-            (λ i l.
-              ( subst (λ x. Within (take f pool) x) (sym (old i l)) (within i l)
-              , ap (λ (x : Entry). x .hash) (old i l) ∙ s .kept i (omega arith) .1 ∙ ap (λ (c : Cell). hashed (c .form) (c .handles)) (sym (old-cell i l)) ));
+            (λ i l. (
+              subst (λ x. Within (take f pool) x) (sym (old i l)) (within i l),
+              ap (λ (x : Entry). x .hash) (old i l) ∙ s .kept i (omega arith) .1 ∙ ap (λ (c : Cell). hashed (c .form) (c .handles)) (sym (old-cell i l)),
+            ));
         placed =
             subst (λ m. (i : ℕ) → i < length (take n es) → getD (take n es) i vacant .first ≡ used (take i m)) (sym held-cut)
             (each (λ i. getD (take n es) i vacant .first ≡ used (take i (take n all)))
-              (λ i l. ap (λ (x : Entry). x .first) (old i l) ∙ s .placed i (omega arith) ∙ ap used (sym (take-take i n all (omega arith)))));
+            (λ i l. ap (λ (x : Entry). x .first) (old i l) ∙ s .placed i (omega arith) ∙ ap used (sym (take-take i n all (omega arith)))));
         fitted =
             subst (λ m. (i : ℕ) → i < length (take n es) → fits (take i m) (getD (take n es) i vacant .node) (handles-at (take f pool) (take n es) i) ≡ true) (sym held-cut)
             (each (λ i. fits (take i (take n all)) (getD (take n es) i vacant .node) (handles-at (take f pool) (take n es) i) ≡ true)
-              (λ i l.
-                ap (λ m. fits m (getD (take n es) i vacant .node) (handles-at (take f pool) (take n es) i)) (take-take i n all (omega arith))
-                ∙ ap (λ (c : Cell). fits (take i all) (c .form) (c .handles)) (old-cell i l) ∙ s .fitted i (omega arith)));
+            (λ i l.
+            ap (λ m. fits m (getD (take n es) i vacant .node) (handles-at (take f pool) (take n es) i)) (take-take i n all (omega arith))
+            ∙ ap (λ (c : Cell). fits (take i all) (c .form) (c .handles)) (old-cell i l) ∙ s .fitted i (omega arith)));
         known =
             subst (λ m. (i : ℕ) → i < length (take n es) → (getD (take n es) i vacant .facts .height ≡ height (getD m i nil)) × (getD (take n es) i vacant .facts .flags .bits ≡ flags (getD m i nil))) (sym held-cut)
             (each (λ i. (getD (take n es) i vacant .facts .height ≡ height (getD (take n all) i nil)) × (getD (take n es) i vacant .facts .flags .bits ≡ flags (getD (take n all) i nil)))
-              (λ i l.
-                ( ap (λ (x : Entry). x .facts .height) (old i l) ∙ s .known i (omega arith) .0 ∙ ap height (sym (old-tree i l))
-                , ap (λ (x : Entry). x .facts .flags .bits) (old i l) ∙ s .known i (omega arith) .1 ∙ ap flags (sym (old-tree i l)) )));
+            (λ i l. (
+              ap (λ (x : Entry). x .facts .height) (old i l) ∙ s .known i (omega arith) .0 ∙ ap height (sym (old-tree i l)),
+              ap (λ (x : Entry). x .facts .flags .bits) (old i l) ∙ s .known i (omega arith) .1 ∙ ap flags (sym (old-tree i l)),
+            )));
         deep =
             subst (λ m. (i : ℕ) → i < length (take n es) → getD (take n es) i vacant .facts .outer ≡ outer (getD m i nil)) (sym held-cut)
             (each (λ i. getD (take n es) i vacant .facts .outer ≡ outer (getD (take n all) i nil))
-              (λ i l. ap (λ (x : Entry). x .facts .outer) (old i l) ∙ s .deep i (omega arith) ∙ ap outer (sym (old-tree i l))));
+            (λ i l. ap (λ (x : Entry). x .facts .outer) (old i l) ∙ s .deep i (omega arith) ∙ ap outer (sym (old-tree i l))));
         low =
             each (λ i. (getD (take n es) i vacant .facts .height ≤ 64) × (count (getD (take n es) i vacant .node) ≤ 256))
             (λ i l. subst (λ (x : Entry). (x .facts .height ≤ 64) × (count (x .node) ≤ 256)) (sym (old i l)) (s .low i (omega arith)));
         sole =
             subst (λ m. One-handle m) (sym held-cut) (λ i l.
-              let size : length (take n all) ≡ n = length-take-le n all (omega (arith, length-held pool es)) in
-              let z : i < n = omega arith in
-              let split : take n all ++ drop n all ≡ all = take-append-drop n all in
-              let own : handle all (getD all i nil) ≡ i = s .sole i (omega (arith, length-held pool es)) in
-              let whole : handle (take n all ++ drop n all) (getD all i nil) ≡ i = ap (λ m. handle m (getD all i nil)) split ∙ own in
-              ap (handle (take n all)) (old-tree i z)
-              ∙ handle-front (take n all) (drop n all) (getD all i nil) (omega arith) ∙ whole);
-        counted = long ∙ start ∙ ap used (sym held-cut)
+            let size : length (take n all) ≡ n = length-take-le n all (omega (arith, length-held pool es)) in
+            let z : i < n = omega arith in
+            let split : take n all ++ drop n all ≡ all = take-append-drop n all in
+            let own : handle all (getD all i nil) ≡ i = s .sole i (omega (arith, length-held pool es)) in
+            let whole : handle (take n all ++ drop n all) (getD all i nil) ≡ i = ap (λ m. handle m (getD all i nil)) split ∙ own in
+            ap (handle (take n all)) (old-tree i z)
+            ∙ handle-front (take n all) (drop n all) (getD all i nil) (omega arith) ∙ whole);
+        counted = long ∙ start ∙ ap used (sym held-cut);
       }

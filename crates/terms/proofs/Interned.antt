@@ -52,10 +52,10 @@ module _ (s : Store) (c : Cell) (proper : Proper (trees s) c) where
     unfolding put
     put-full h =
         let full : has-room (means s) t ≡ false =
-            ⊎-elim
-            (λ (l : s .limit ≤ s .len). and-left (ltb (length (trees s)) (s .limit)) (leb (used (trees s) + length (parts t)) (s .room)) (le-ltb (length (trees s)) (s .limit) (omega (arith, size))))
-            (λ (l : s .room - s .used < length (c .handles)). and-right (ltb (length (trees s)) (s .limit)) (leb (used (trees s) + length (parts t)) (s .room)) (lt-leb (used (trees s) + length (parts t)) (s .room) (omega (arith, need, s .inside))))
-            h
+        ⊎-elim
+        (λ (l : s .limit ≤ s .len). and-left (ltb (length (trees s)) (s .limit)) (leb (used (trees s) + length (parts t)) (s .room)) (le-ltb (length (trees s)) (s .limit) (omega (arith, size))))
+        (λ (l : s .room - s .used < length (c .handles)). and-right (ltb (length (trees s)) (s .limit)) (leb (used (trees s) + length (parts t)) (s .room)) (lt-leb (used (trees s) + length (parts t)) (s .room) (omega (arith, need, s .inside))))
+        h
         in
         rw (no, full) refl
 

@@ -127,6 +127,6 @@ handle-front (u ∷ m) us t l =
     ⊎-elim
     (λ y. cond-true (test (tree? u t)) 0 _ y ∙ sym (cond-true (test (tree? u t)) 0 _ y))
     (λ n.
-      let e : handle (u ∷ m ++ us) t ≡ suc (handle (m ++ us) t) = cond-false (test (tree? u t)) 0 _ n in
-      cond-false (test (tree? u t)) 0 _ n ∙ ap suc (handle-front m us t (omega (arith, e))) ∙ sym e)
+    let e : handle (u ∷ m ++ us) t ≡ suc (handle (m ++ us) t) = cond-false (test (tree? u t)) 0 _ n in
+    cond-false (test (tree? u t)) 0 _ n ∙ ap suc (handle-front m us t (omega (arith, e))) ∙ sym e)
     (cases-bool (test (tree? u t)))

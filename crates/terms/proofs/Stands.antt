@@ -48,9 +48,9 @@ not-held pool es hd s c proper fresh =
     let k = handle m t in
     ⊎-elim
     (λ (l : k < length m).
-      let i : k < length es = omega (arith, length-held pool es) in
-      let same = sym (own-tree pool es (s .kept) (s .fitted) k i) ∙ handle-hit m t l in
-      absurd (fresh k i (same-cell m (cell-of pool (getD es k vacant)) c (s .sole) (own-proper pool es (s .kept) (s .fitted) k i) proper same)))
+    let i : k < length es = omega (arith, length-held pool es) in
+    let same = sym (own-tree pool es (s .kept) (s .fitted) k i) ∙ handle-hit m t l in
+    absurd (fresh k i (same-cell m (cell-of pool (getD es k vacant)) c (s .sole) (own-proper pool es (s .kept) (s .fitted) k i) proper same)))
     (λ (l : length m ≤ k). l)
     (cases-lt k (length m))
 
@@ -118,9 +118,9 @@ module _ (pool : List ℕ) (es : List Entry) (hd : List ℕ) (s : Sound pool es 
   placed′ =
       subst (λ m. (i : ℕ) → i < length (es ++ e ∷ []) → getD (es ++ e ∷ []) i vacant .first ≡ used (take i m)) (sym held-push)
       (each (λ i. getD (es ++ e ∷ []) i vacant .first ≡ used (take i (held pool es ++ new-tree ∷ [])))
-        (λ i l. ap (λ (x : Entry). x .first) (old-entry i l) ∙ s .placed i l ∙ ap used (sym (old-trees i (omega arith))))
-        ( ap (λ (x : Entry). x .first) new-entry ∙ first ∙ s .counted
-        ∙ ap used (sym (old-trees (length es) (omega arith) ∙ take-all (length es) (held pool es) (omega (arith, length-held pool es)))) ))
+      (λ i l. ap (λ (x : Entry). x .first) (old-entry i l) ∙ s .placed i l ∙ ap used (sym (old-trees i (omega arith))))
+      (ap (λ (x : Entry). x .first) new-entry ∙ first ∙ s .counted
+      ∙ ap used (sym (old-trees (length es) (omega arith) ∙ take-all (length es) (held pool es) (omega (arith, length-held pool es))))))
 
   fitted′ : Fitted (pool ++ ns) (es ++ e ∷ [])
   fitted′ =

@@ -49,16 +49,16 @@ or-assoc-below (suc k) a b c l =
     ⊎-elim
     (λ (z : a ≡ 0). ap (λ x. bitOr (bitOr x b) c) z ∙ ap (λ x. bitOr x (bitOr b c)) (sym z))
     (λ (nz : a ≡ 0 → ⊥).
-      let less : a / 2 < k = omega arith in
-      let high : bitOr (bitOr (a / 2) (b / 2)) (c / 2) ≡ bitOr (a / 2) (bitOr (b / 2) (c / 2)) = or-assoc-below k (a / 2) (b / 2) (c / 2) less in
-      or-step (bitOr a b) c
-      ∙ ap (λ x. bitOr x (c / 2) * 2 + max (bitOr a b % 2) (c % 2)) (or-half a b)
-      ∙ ap (λ x. x * 2 + max (bitOr a b % 2) (c % 2)) high
-      ∙ ap (λ x. bitOr (a / 2) (bitOr (b / 2) (c / 2)) * 2 + max x (c % 2)) (or-bit a b)
-      ∙ ap (λ x. bitOr (a / 2) (bitOr (b / 2) (c / 2)) * 2 + x) (max-assoc (a % 2) (b % 2) (c % 2))
-      ∙ ap (λ x. bitOr (a / 2) (bitOr (b / 2) (c / 2)) * 2 + max (a % 2) x) (sym (or-bit b c))
-      ∙ ap (λ x. bitOr (a / 2) x * 2 + max (a % 2) (bitOr b c % 2)) (sym (or-half b c))
-      ∙ sym (or-step a (bitOr b c)))
+    let less : a / 2 < k = omega arith in
+    let high : bitOr (bitOr (a / 2) (b / 2)) (c / 2) ≡ bitOr (a / 2) (bitOr (b / 2) (c / 2)) = or-assoc-below k (a / 2) (b / 2) (c / 2) less in
+    or-step (bitOr a b) c
+    ∙ ap (λ x. bitOr x (c / 2) * 2 + max (bitOr a b % 2) (c % 2)) (or-half a b)
+    ∙ ap (λ x. x * 2 + max (bitOr a b % 2) (c % 2)) high
+    ∙ ap (λ x. bitOr (a / 2) (bitOr (b / 2) (c / 2)) * 2 + max x (c % 2)) (or-bit a b)
+    ∙ ap (λ x. bitOr (a / 2) (bitOr (b / 2) (c / 2)) * 2 + x) (max-assoc (a % 2) (b % 2) (c % 2))
+    ∙ ap (λ x. bitOr (a / 2) (bitOr (b / 2) (c / 2)) * 2 + max (a % 2) x) (sym (or-bit b c))
+    ∙ ap (λ x. bitOr (a / 2) x * 2 + max (a % 2) (bitOr b c % 2)) (sym (or-half b c))
+    ∙ sym (or-step a (bitOr b c)))
     (cases-eq a 0)
 
 or-assoc : (a b c : ℕ) → bitOr (bitOr a b) c ≡ bitOr a (bitOr b c)
@@ -122,11 +122,11 @@ unfolding assembled
 topped-is m h ns e =
     ⊎-elim
     (λ (a : applies h ≡ true).
-      let o = one-list m h ns a e in
-      let us = o .0 in
-      let is : trees-at m ns ≡ node (A-List Arguments) us ∷ [] = o .1 in
-      let flat : beside (facts (node (A-List Arguments) us)) no-facts ≡ facts us = beside-none (facts (node (A-List Arguments) us)) ∙ same-facts _ _ _ _ _ _ (omega arith) refl (omega arith) in
-      rw (is, a) (ap (topped h) flat))
+    let o = one-list m h ns a e in
+    let us = o .0 in
+    let is : trees-at m ns ≡ node (A-List Arguments) us ∷ [] = o .1 in
+    let flat : beside (facts (node (A-List Arguments) us)) no-facts ≡ facts us = beside-none (facts (node (A-List Arguments) us)) ∙ same-facts _ _ _ _ _ _ (omega arith) refl (omega arith) in
+    rw (is, a) (ap (topped h) flat))
     (λ (a : applies h ≡ false). rw a refl)
     (cases-bool (applies h))
 

@@ -1,8 +1,8 @@
 // The calls that read, and cutting back.
 ghost use mathlib.Core.Path.{_≡_};
-ghost use lib.ListN.{length, take};
+ghost use lib.ListN.{take};
 ghost use Rattle.theory.specs.Store.{get as read, part as part-at, facts-at, sort-at};
-ghost use Rattle.terms.specs.Reads.{Read-at};
+ghost use Rattle.terms.specs.Reads.{Read-at, Compared};
 ghost use Rattle.terms.specs.Means.{trees};
 use crate::forms::sort_of;
 use crate::memory::Entry;
@@ -15,13 +15,6 @@ use theory::Sort;
 use theory::StoreFault;
 
 impl Store<'_> {
-    // How many terms are held.
-    pub fn len(&self) -> usize
-        ensures { λ r. ⌜ r ≡ length (trees (now (self .entry))) ⌝ }
-    {
-        self.len
-    }
-
     pub(crate) fn entry(&self, term: Handle) -> Result<Entry, StoreFault>
         ensures { λ r. ⌜ Read-at (take (now (self .entry) .len) (now (now (self .entry) .entries))) term r ⌝ }
     {
@@ -62,5 +55,16 @@ impl Store<'_> {
         ensures { λ r. ⌜ r ≡ sort-at (trees (now (self .entry))) term ⌝ }
     {
         Ok(sort_of(self.get(term)?))
+    }
+}
+
+impl Store<'_> {
+    // Whether two handles name equal terms: exactly when they are one handle.
+    pub fn is_same(&self, a: Handle, b: Handle) -> Result<bool, StoreFault>
+        ensures { λ r. ⌜ Compared (trees (now (self .entry))) a b r ⌝ }
+    {
+        self.entry(a)?;
+        self.entry(b)?;
+        Ok(a == b)
     }
 }

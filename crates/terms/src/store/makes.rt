@@ -1,7 +1,7 @@
 // A store is made over memory that the caller lends.
 ghost use mathlib.Core.Path.{_≡_};
 ghost use lib.ListN.{length};
-ghost use Rattle.terms.specs.Means.{means, empty, limited};
+ghost use Rattle.terms.specs.Means.{means, empty, limited, trees};
 use crate::memory::Entry;
 use crate::store::Store;
 use theory::Handle;
@@ -12,7 +12,11 @@ use theory::MOST_ITEMS;
 fn limit_of(entries: usize, buckets: usize) -> usize
     ensures { λ r. ⌜ r ≡ limited entries buckets ⌝ }
 {
-    if buckets == 0 { 0 } else { entries.min(MOST_ENTRIES) }
+    if buckets == 0 {
+        0
+    } else {
+        entries.min(MOST_ENTRIES)
+    }
 }
 
 impl<'a> Store<'a> {
@@ -38,5 +42,14 @@ impl<'a> Store<'a> {
             limit,
             room,
         }
+    }
+}
+
+impl Store<'_> {
+    // How many terms are held.
+    pub fn len(&self) -> usize
+        ensures { λ r. ⌜ r ≡ length (trees (now (self .entry))) ⌝ }
+    {
+        self.len
     }
 }

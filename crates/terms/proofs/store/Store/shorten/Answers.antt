@@ -24,7 +24,7 @@ ghost-self c =
       indexed = omega (arith, r .indexed, length-set hd (e .hash % length hd) (e .next));
       inside = omega (arith, r .inside, first-in s (c .pre));
       few-items = r .few-items;
-      lent-items = r .lent-items
+      lent-items = r .lent-items;
     })
     (sound-shortened s (c .pre))
 
@@ -33,5 +33,5 @@ returns c =
     let s = c .args .self .now in
     record {
       after = ap (λ ts. record { trees = ts; entries = s .limit; items = s .room }) (trees-cut s (c .pre));
-      len = omega (arith, c .pre)
+      len = omega (arith, c .pre);
     }

@@ -42,13 +42,14 @@ loop-k-again c =
     let xs = c .args .parts .now in
     let e = c .in-Continue-e .e in
     let r = c .in-Continue-e .ensures tt in
-    let low : e .facts .height ≤ 64 = subst (λ (x : Entry). x .facts .height ≤ 64) (sym (r .1)) (s .low (getD xs (l .k) 0) (r .0) .0) in
-    ( ap (λ k. surveyed (trees s) (c .args .head) k (drop (l .k + 1) xs) (c .join-facts-all .result)) (add-one (l .k))
-      ∙ ap (surveyed (trees s) (c .args .head) (suc (l .k)) (drop (l .k + 1) xs)) (c .join-facts-all .ensures)
-      ∙ step-more s (c .args .head) (l .k) (getD xs (l .k) 0) (drop (l .k + 1) xs) (l .all) e r (sym (c .takes-part .ensures) ∙ c .if-not-takes-part .left)
-      ∙ ap (λ ns. surveyed (trees s) (c .args .head) (l .k) ns (l .all)) (sym (drop-more xs (l .k) 0 (c .loop-k-test .taken)))
-      ∙ l .inv .0
-    , omega (arith, low, l .inv .1, ap (λ (f : Facts). f .height) (c .join-facts-all .ensures)) )
+    let low : e .facts .height ≤ 64 = subst (λ (x : Entry). x .facts .height ≤ 64) (sym (r .1)) (s .low (getD xs (l .k) 0) (r .0) .0) in (
+      ap (λ k. surveyed (trees s) (c .args .head) k (drop (l .k + 1) xs) (c .join-facts-all .result)) (add-one (l .k))
+          ∙ ap (surveyed (trees s) (c .args .head) (suc (l .k)) (drop (l .k + 1) xs)) (c .join-facts-all .ensures)
+          ∙ step-more s (c .args .head) (l .k) (getD xs (l .k) 0) (drop (l .k + 1) xs) (l .all) e r (sym (c .takes-part .ensures) ∙ c .if-not-takes-part .left)
+          ∙ ap (λ ns. surveyed (trees s) (c .args .head) (l .k) ns (l .all)) (sym (drop-more xs (l .k) 0 (c .loop-k-test .taken)))
+          ∙ l .inv .0,
+      omega (arith, low, l .inv .1, ap (λ (f : Facts). f .height) (c .join-facts-all .ensures)),
+    )
 
 -- after the last part
 pub returns-then-parts-least-parts : need.returns-then-parts-least-parts
