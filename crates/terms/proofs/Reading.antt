@@ -8,11 +8,12 @@ use lib.ListN.{length, getD, take, drop}
 use Rattle.std.proofs.shelf.Lists.{length-map, getD-map, getD-take, getD-drop, length-take-le, length-drop}
 use Rattle.std.specs.declared.result.Result.{Result}
 use Rattle.std.specs.declared.result.Result.the-variants.{Ok, Err}
+use Rattle.theory.specs.declared.words.Node.{Node}
 use Rattle.theory.specs.declared.words.StoreFault.{StoreFault}
 use Rattle.theory.specs.declared.words.StoreFault.the-variants.{NoSuch, BadPart}
 use Rattle.theory.specs.Outcomes.{at, given, _>>=_}
-use Rattle.theory.specs.Trees.{Tree, nil, parts, seen, facts, height, flags, outer}
-use Rattle.theory.specs.Store.{found, handle, get, part, facts-at}
+use Rattle.theory.specs.Trees.{Tree, nil, parts, seen, node-sort, facts, height, flags, outer}
+use Rattle.theory.specs.Store.{found, handle, get, part, sort-at, facts-at}
 use Rattle.terms.specs.declared.memory.entry.Entry.{Entry}
 use Rattle.terms.specs.declared.store.Store.{Store}
 use Rattle.terms.specs.Memory.{count, vacant, handles-at}
@@ -57,6 +58,10 @@ module _ (s : Store) (n : ℕ) (f : StoreFault) (h : (length (entries-of s) ≤ 
   unfolding facts-at
   facts-err = missing-at s n f (λ t. Ok (facts t)) h
 
+  pub sort-err : Err f ≡ sort-at (trees s) n
+  unfolding sort-at
+  sort-err = ap (λ (r : Result Node StoreFault). r >>= λ v. Ok (node-sort v)) get-err
+
   pub part-err : (k : ℕ) → Err f ≡ part (trees s) n k
   unfolding part
   part-err k = missing-at s n f (λ t. given (at (parts t) k) (BadPart k) >>= λ u. Ok (handle (trees s) u)) h
@@ -65,6 +70,10 @@ module _ (s : Store) (n : ℕ) (e : Entry) (h : (n < length (entries-of s)) × (
   pub get-ok : Ok (e .node) ≡ get (trees s) n
   unfolding get
   get-ok = present-at s n (Ok (e .node)) (λ t. Ok (seen t)) (h .0) (ap (λ (x : Entry). Ok (x .node)) (h .1) ∙ ap Ok (sym (seen-at s n (h .0))))
+
+  pub sort-ok : Ok (node-sort (e .node)) ≡ sort-at (trees s) n
+  unfolding sort-at
+  sort-ok = ap (λ (r : Result Node StoreFault). r >>= λ v. Ok (node-sort v)) get-ok
 
   pub facts-ok : Ok (e .facts) ≡ facts-at (trees s) n
   unfolding facts-at
@@ -113,3 +122,9 @@ module _ (s : Store) (n : ℕ) (e : Entry) (h : (n < length (entries-of s)) × (
       (ap (λ us. given (at us k) (BadPart k) >>= λ u. Ok (handle (trees s) u)) (parts-here s n (h .0))
       ∙ ap (λ o. given o (BadPart k) >>= λ u. Ok (handle (trees s) u)) (at-in ts k lt)
       ∙ ap Ok (back ∙ own)))
+
+  pub part-lent : (k : ℕ) → k < count (e .node) → e .first + k < length (now (s .items))
+  part-lent k l = omega (arith, part-in k l, s .inside, s .«lent_items»)
+
+  pub parts-few : e .first + count (e .node) ≤ 16776960
+  parts-few = omega (arith, within, length-pool s, s .inside, s .«few_items»)

@@ -19,14 +19,14 @@ use Rattle.theory.specs.declared.words.ListSort.the-variants.{Arguments}
 use Rattle.theory.specs.declared.words.Facts.{Facts}
 use Rattle.theory.specs.declared.words.StoreFault.{StoreFault}
 use Rattle.theory.specs.declared.words.StoreFault.the-variants.{NoSuch, BadPart}
-use Rattle.theory.specs.Outcomes.{at, _>>=_}
+use Rattle.theory.specs.Outcomes.{at, _>>=_, answered}
 use Rattle.theory.specs.Trees.{Tree, node, nil, cons, row, applies, assembled, seen, takes, least, facts}
-use Rattle.theory.specs.Store.{checked, checked-at}
+use Rattle.theory.specs.Store.{checked, checked-at, put, add-node}
 use Rattle.terms.specs.Memory.{accepted, vacant}
-use Rattle.terms.specs.Survey.{no-facts, beside, topped, surveyed, surveyed-at}
+use Rattle.terms.specs.Survey.{no-facts, beside, topped, surveyed, surveyed-at, Passed}
 use Rattle.terms.specs.declared.memory.entry.Entry.{Entry}
 use Rattle.terms.specs.declared.store.Store.{Store}
-use Rattle.terms.specs.Means.{trees}
+use Rattle.terms.specs.Means.{trees, means}
 use Rattle.terms.proofs.Places.{trees-at, at-in, at-out}
 use Rattle.terms.proofs.Pushed.{entries-of}
 use Rattle.terms.proofs.Reading.{length-trees, seen-at, facts-here}
@@ -149,6 +149,22 @@ module _ (m : List Tree) (h : Head) (ns : List ℕ) where
 
   pub survey-err : (g : StoreFault) → Err g ≡ surveyed m h 0 ns no-facts → checked m h 0 ns ≡ Err g
   survey-err g e = answer-err h g (checked m h 0 ns) (sym (e ∙ surveyed-is m h 0 ns no-facts))
+
+-- What the pass tells the call that adds
+
+pub pass-refused : (s : Store) (h : Head) (ns : List ℕ) (g : StoreFault) → Err g ≡ surveyed (trees s) h 0 ns no-facts → Passed (means s) h ns (Err g)
+unfolding add-node
+pass-refused s h ns g e =
+    ap (λ (r : Result (List Tree) StoreFault). answered (means s) (r >>= λ ts. put (means s) (assembled h ts))) (sym (survey-err (trees s) h ns g e))
+
+pub pass-accepted : (s : Store) (h : Head) (ns : List ℕ) (f : Facts) → Ok f ≡ surveyed (trees s) h 0 ns no-facts → Passed (means s) h ns (Ok f)
+unfolding add-node
+pass-accepted s h ns f e =
+    let o = survey-ok (trees s) h ns f e in (
+      o .0,
+      o .1,
+      ap (λ (r : Result (List Tree) StoreFault). answered (means s) (r >>= λ ts. put (means s) (assembled h ts))) (sym (accepted-trees (trees s) h 0 ns (o .0))),
+    )
 
 -- One turn of the pass
 

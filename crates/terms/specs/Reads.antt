@@ -3,20 +3,32 @@ use mathlib.Core.Path.{_≡_}
 use mathlib.Core.Bool.{Bool}
 use mathlib.Core.List.{List}
 use mathlib.Core.Logic.{_⊎_}
-use Prim.Native.Nat.{ℕ, _<_, _≤_}
+use Prim.Native.Nat.{ℕ, _+_, _<_, _≤_}
 use lib.ListN.{length, getD}
 use Rattle.std.specs.declared.result.Result.{Result}
 use Rattle.std.specs.declared.result.Result.the-variants.{Ok, Err}
 use Rattle.theory.specs.declared.words.StoreFault.{StoreFault}
-use Rattle.theory.specs.declared.words.StoreFault.the-variants.{NoSuch}
+use Rattle.theory.specs.declared.words.StoreFault.the-variants.{NoSuch, BadPart}
 use Rattle.std.specs.Orderings.{Decides}
-use Rattle.theory.specs.Trees.{Tree, nil}
+use Rattle.theory.specs.Limits.{most-items}
+use Rattle.theory.specs.Trees.{Tree, nil, node-sort}
+use Rattle.theory.specs.Store.{get, part, sort-at, facts-at}
 use Rattle.terms.specs.declared.memory.entry.Entry.{Entry}
-use Rattle.terms.specs.Memory.{vacant}
+use Rattle.terms.specs.Memory.{vacant, count}
 
 abbrev pub Read-at : List Entry → ℕ → Result Entry StoreFault → Type 0
 Read-at es n (Ok e) = (n < length es) × (e ≡ getD es n vacant)
 Read-at es n (Err f) = (length es ≤ n) × (f ≡ NoSuch n)
+
+-- what an entry says of its term, to every call that reads one: m are the trees held, xs the items
+abbrev pub Reads : List Tree → List ℕ → ℕ → Result Entry StoreFault → Type 0
+Reads m xs n (Ok e) =
+    (Ok (e .node) ≡ get m n) × (Ok (e .facts) ≡ facts-at m n) × (Ok (node-sort (e .node)) ≡ sort-at m n)
+    × ((k : ℕ) → k < count (e .node) → Ok (getD xs (e .first + k) 0) ≡ part m n k)
+    × ((k : ℕ) → count (e .node) ≤ k → Err (BadPart k) ≡ part m n k)
+    × ((k : ℕ) → k < count (e .node) → e .first + k < length xs)
+    × (e .first + count (e .node) ≤ most-items)
+Reads m xs n (Err f) = (Err f ≡ get m n) × (Err f ≡ facts-at m n) × (Err f ≡ sort-at m n) × ((k : ℕ) → Err f ≡ part m n k)
 
 -- the first handle that names nothing, or whether the two name equal terms, which is whether they are one handle
 abbrev pub Compared : List Tree → ℕ → ℕ → Result Bool StoreFault → Type 0

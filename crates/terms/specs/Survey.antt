@@ -1,18 +1,23 @@
 -- What is found of a new term from its parts, in one pass that also checks them.
-use mathlib.Core.Bool.{cond}
+use mathlib.Core.Path.{_≡_}
+use mathlib.Core.Bool.{cond, true}
 use mathlib.Core.List.{List, [], _∷_}
 use mathlib.Core.Option.{Option, none, some}
 use Prim.Native.Nat.{ℕ, suc, _+_, _-_, max}
 use lib.Bits.{bitOr}
 use lib.Dec.{ltb}
+use lib.ListN.{length}
 use Rattle.std.specs.declared.result.Result.{Result}
 use Rattle.std.specs.declared.result.Result.the-variants.{Ok, Err}
 use Rattle.theory.specs.declared.words.Head.{Head}
 use Rattle.theory.specs.declared.words.Facts.{Facts}
 use Rattle.theory.specs.declared.words.StoreFault.{StoreFault}
 use Rattle.theory.specs.declared.words.StoreFault.the-variants.{NoSuch, BadPart}
-use Rattle.theory.specs.Outcomes.{at}
+use Rattle.theory.specs.declared.words.Node.the-variants.{Over}
+use Rattle.theory.specs.Outcomes.{at, answered}
 use Rattle.theory.specs.Trees.{Tree, seen, takes, least, weight, opens, facts}
+use Rattle.theory.specs.Store.{Contents, put, add-node}
+use Rattle.terms.specs.Memory.{cell, tree-of, fits}
 
 abbrev pub no-facts : Facts
 no-facts = record { height = 0; flags = record { bits = 0 }; outer = 0 }
@@ -33,3 +38,11 @@ surveyed-at h k n (some t) rest f = cond (takes h k (seen t)) (rest (beside f (f
 abbrev pub surveyed : List Tree → Head → ℕ → List ℕ → Facts → Result Facts StoreFault
 surveyed m h k [] f = cond (ltb k (least h)) (Err (BadPart k)) (Ok (topped h f))
 surveyed m h k (n ∷ ns) f = surveyed-at h k n (at m n) (surveyed m h (suc k) ns) f
+
+-- what a pass over the parts tells the call that adds: the refusal, or that the parts fit and what is found of the term
+abbrev pub Passed : Contents → Head → List ℕ → Result Facts StoreFault → Type 0
+Passed c h ns (Ok f) =
+    (fits (c .trees) (Over h (length ns)) ns ≡ true)
+    × (f ≡ facts (tree-of (c .trees) (cell (Over h (length ns)) ns)))
+    × (answered c (put c (tree-of (c .trees) (cell (Over h (length ns)) ns))) ≡ add-node c h ns)
+Passed c h ns (Err g) = (Err g, c) ≡ add-node c h ns

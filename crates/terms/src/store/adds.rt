@@ -12,7 +12,7 @@ ghost use Rattle.terms.specs.Memory.{count, cell, fits, tree-of};
 ghost use Rattle.terms.specs.Chains.{Sought};
 ghost use Rattle.std.specs.declared.option.Option.the-variants.{None};
 ghost use Rattle.terms.specs.Means.{trees, means};
-ghost use Rattle.terms.specs.Survey.{no-facts, surveyed};
+ghost use Rattle.terms.specs.Survey.{Passed};
 use crate::forms::facts_of_leaf;
 use crate::forms::join_facts;
 use crate::forms::least_parts;
@@ -133,7 +133,7 @@ impl Store<'_> {
 
     // What is found of a head over parts: refuses 1 at the first handle that names nothing or part that does not fit.
     fn survey(&self, head: Head, parts: &[Handle]) -> Result<Facts, StoreFault>
-        ensures { λ r. ⌜ r ≡ surveyed (trees (now (self .entry))) head 0 (now (parts .entry)) no-facts ⌝ }
+        ensures { λ r. ⌜ Passed (means (now (self .entry))) head (now (parts .entry)) r ⌝ }
     {
         let mut all = Facts {
             height: 0,

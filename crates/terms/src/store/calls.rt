@@ -2,7 +2,7 @@
 ghost use mathlib.Core.Path.{_≡_};
 ghost use lib.ListN.{take};
 ghost use Rattle.theory.specs.Store.{get as read, part as part-at, facts-at, sort-at};
-ghost use Rattle.terms.specs.Reads.{Read-at, Compared};
+ghost use Rattle.terms.specs.Reads.{Read-at, Reads, Compared};
 ghost use Rattle.terms.specs.Means.{trees};
 use crate::forms::sort_of;
 use crate::memory::Entry;
@@ -15,8 +15,10 @@ use theory::Sort;
 use theory::StoreFault;
 
 impl Store<'_> {
+    // The entry at a handle, in memory and by what it says of its term.
     pub(crate) fn entry(&self, term: Handle) -> Result<Entry, StoreFault>
-        ensures { λ r. ⌜ Read-at (take (now (self .entry) .len) (now (now (self .entry) .entries))) term r ⌝ }
+        ensures memory { λ r. ⌜ Read-at (take (now (self .entry) .len) (now (now (self .entry) .entries))) term r ⌝ }
+        ensures meaning { λ r. ⌜ Reads (trees (now (self .entry))) (now (now (self .entry) .items)) term r ⌝ }
     {
         let at = term as usize;
         if at >= self.len {
@@ -54,7 +56,7 @@ impl Store<'_> {
     pub fn sort(&self, term: Handle) -> Result<Sort, StoreFault>
         ensures { λ r. ⌜ r ≡ sort-at (trees (now (self .entry))) term ⌝ }
     {
-        Ok(sort_of(self.get(term)?))
+        Ok(sort_of(self.entry(term)?.node))
     }
 }
 

@@ -14,15 +14,15 @@ use Rattle.terms.proofs.store.Store.is_same.Needs as need
 pub returns-in-Break-entry : need.returns-in-Break-entry
 returns-in-Break-entry c =
     let p = err-from-errBy (c .from-residual .result) (c .from-residual .ensures .1) in
-    let e = c .in-Break-entry .ensures tt in
+    let e = c .in-Break-entry .ensures tt .memory in
     let out : length (trees (c .args .self .now)) ≤ c .args .a = omega (arith, e .0, length-trees (c .args .self .now)) in
     rw (p .1, p .2) (inl (out, e .1))
 
 pub returns-in-Break-entry-2 : need.returns-in-Break-entry-2
 returns-in-Break-entry-2 c =
     let p = err-from-errBy (c .from-residual-in-Break-entry-2 .result) (c .from-residual-in-Break-entry-2 .ensures .1) in
-    let d = c .in-Continue-entry .ensures tt in
-    let e = c .in-Break-entry-2 .ensures tt in
+    let d = c .in-Continue-entry .ensures tt .memory in
+    let e = c .in-Break-entry-2 .ensures tt .memory in
     let in-a : c .args .a < length (trees (c .args .self .now)) = omega (arith, d .0, length-trees (c .args .self .now)) in
     let out : length (trees (c .args .self .now)) ≤ c .args .b = omega (arith, e .0, length-trees (c .args .self .now)) in
     rw (p .1, p .2) (inr (in-a, out, e .1))
@@ -33,8 +33,8 @@ returns c =
     let s = c .args .self .now in
     let a = c .args .a in
     let b = c .args .b in
-    let d = c .in-Continue-entry .ensures tt in
-    let e = c .in-Continue-entry-2 .ensures tt in
+    let d = c .in-Continue-entry .ensures tt .memory in
+    let e = c .in-Continue-entry-2 .ensures tt .memory in
     let in-a : a < length (trees s) = omega (arith, d .0, length-trees s) in
     let in-b : b < length (trees s) = omega (arith, e .0, length-trees s) in (
       in-a,

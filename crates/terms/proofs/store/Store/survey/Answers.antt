@@ -12,7 +12,7 @@ use Rattle.theory.specs.declared.words.StoreFault.the-variants.{BadPart}
 use Rattle.terms.specs.declared.memory.entry.Entry.{Entry}
 use Rattle.terms.specs.Means.{trees}
 use Rattle.terms.specs.Survey.{surveyed, beside, topped}
-use Rattle.terms.proofs.Surveys.{step-missing, step-bad, step-more, end-bad, end-ok}
+use Rattle.terms.proofs.Surveys.{pass-refused, pass-accepted, step-missing, step-bad, step-more, end-bad, end-ok}
 use Rattle.terms.proofs.store.Store.survey.Needs as need
 
 pub returns-in-Break-e : need.returns-in-Break-e
@@ -22,18 +22,20 @@ returns-in-Break-e c =
     let xs = c .args .parts .now in
     let p = err-from-errBy (c .from-residual .result) (c .from-residual .ensures .1) in
     rw (p .1, p .2)
-    (step-missing s (c .args .head) (l .k) (getD xs (l .k) 0) (drop (l .k + 1) xs) (l .all) _ (c .in-Break-e .ensures tt)
+    (pass-refused s (c .args .head) xs _
+    (step-missing s (c .args .head) (l .k) (getD xs (l .k) 0) (drop (l .k + 1) xs) (l .all) _ (c .in-Break-e .ensures tt .memory)
     ∙ ap (λ ns. surveyed (trees s) (c .args .head) (l .k) ns (l .all)) (sym (drop-more xs (l .k) 0 (c .loop-k-test .taken)))
-    ∙ l .inv .0)
+    ∙ l .inv .0))
 
 pub returns-then-not-takes-part : need.returns-then-not-takes-part
 returns-then-not-takes-part c =
     let s = c .args .self .now in
     let l = c .loop-k in
     let xs = c .args .parts .now in
-    step-bad s (c .args .head) (l .k) (getD xs (l .k) 0) (drop (l .k + 1) xs) (l .all) _ (c .in-Continue-e .ensures tt) (sym (c .takes-part .ensures) ∙ c .if-not-takes-part .taken)
+    pass-refused s (c .args .head) xs _
+    (step-bad s (c .args .head) (l .k) (getD xs (l .k) 0) (drop (l .k + 1) xs) (l .all) _ (c .in-Continue-e .ensures tt .memory) (sym (c .takes-part .ensures) ∙ c .if-not-takes-part .taken)
     ∙ ap (λ ns. surveyed (trees s) (c .args .head) (l .k) ns (l .all)) (sym (drop-more xs (l .k) 0 (c .loop-k-test .taken)))
-    ∙ l .inv .0
+    ∙ l .inv .0)
 
 pub loop-k-again : need.loop-k-again
 loop-k-again c =
@@ -41,7 +43,7 @@ loop-k-again c =
     let l = c .loop-k in
     let xs = c .args .parts .now in
     let e = c .in-Continue-e .e in
-    let r = c .in-Continue-e .ensures tt in
+    let r = c .in-Continue-e .ensures tt .memory in
     let low : e .facts .height ≤ 64 = subst (λ (x : Entry). x .facts .height ≤ 64) (sym (r .1)) (s .low (getD xs (l .k) 0) (r .0) .0) in (
       ap (λ k. surveyed (trees s) (c .args .head) k (drop (l .k + 1) xs) (c .join-facts-all .result)) (add-one (l .k))
           ∙ ap (surveyed (trees s) (c .args .head) (suc (l .k)) (drop (l .k + 1) xs)) (c .join-facts-all .ensures)
@@ -58,17 +60,19 @@ returns-then-parts-least-parts c =
     let l = c .loop-k in
     let xs = c .args .parts .now in
     let k : length xs ≡ l .k = omega arith in
-    ap (λ n. Err (BadPart n)) k
+    pass-refused s (c .args .head) xs _
+    (ap (λ n. Err (BadPart n)) k
     ∙ end-bad (trees s) (c .args .head) (l .k) (l .all) (omega (arith, c .least-parts .ensures, c .if-parts-least-parts .taken))
     ∙ ap (λ ns. surveyed (trees s) (c .args .head) (l .k) ns (l .all)) (sym (drop-all (l .k) xs (c .loop-k-test .left)))
-    ∙ l .inv .0
+    ∙ l .inv .0)
 
 pub returns : need.returns
 returns c =
     let s = c .args .self .now in
     let l = c .loop-k in
     let xs = c .args .parts .now in
-    ap Ok (c .top-facts .ensures)
+    pass-accepted s (c .args .head) xs _
+    (ap Ok (c .top-facts .ensures)
     ∙ end-ok (trees s) (c .args .head) (l .k) (l .all) (omega (arith, c .least-parts .ensures, c .if-parts-least-parts .left))
     ∙ ap (λ ns. surveyed (trees s) (c .args .head) (l .k) ns (l .all)) (sym (drop-all (l .k) xs (c .loop-k-test .left)))
-    ∙ l .inv .0
+    ∙ l .inv .0)
