@@ -28,18 +28,18 @@ next-number t Const = t .constants
 -- the counts are far from the end of their type
 abbrev pub Small : Tally → Type 0
 Small t =
-  (t .types ≤ 65535) × (t .integers ≤ 65535) × (t .floats ≤ 65535) × (t .regions ≤ 65535)
-  × (t .constants ≤ 65535) × (t .events ≤ 65535)
+    (t .types ≤ 65535) × (t .integers ≤ 65535) × (t .floats ≤ 65535) × (t .regions ≤ 65535)
+    × (t .constants ≤ 65535) × (t .events ≤ 65535)
 
 -- after an event that makes no variable
 abbrev pub One-event : Tally → Tally → Type 0
 One-event t u =
-  (u .types ≡ t .types) × (u .integers ≡ t .integers) × (u .floats ≡ t .floats) × (u .regions ≡ t .regions)
-  × (u .constants ≡ t .constants) × (u .events ≡ t .events + 1) × (u .places ≡ t .places)
+    (u .types ≡ t .types) × (u .integers ≡ t .integers) × (u .floats ≡ t .floats) × (u .regions ≡ t .regions)
+    × (u .constants ≡ t .constants) × (u .events ≡ t .events + 1) × (u .places ≡ t .places)
 
 -- after a variable is made
 abbrev pub One-variable : VariableSort → Tally → Tally → Type 0
 One-variable s t u =
-  (u .types ≡ t .types + one-more s Ty) × (u .integers ≡ t .integers + one-more s Int)
-  × (u .floats ≡ t .floats + one-more s Float) × (u .regions ≡ t .regions + one-more s Region)
-  × (u .constants ≡ t .constants + one-more s Const) × (u .events ≡ t .events + 1) × (u .places ≡ t .places)
+    (u .types ≡ t .types + one-more s Ty) × (u .integers ≡ t .integers + one-more s Int)
+    × (u .floats ≡ t .floats + one-more s Float) × (u .regions ≡ t .regions + one-more s Region)
+    × (u .constants ≡ t .constants + one-more s Const) × (u .events ≡ t .events + 1) × (u .places ≡ t .places)

@@ -199,7 +199,11 @@ impl Reader {
                 Mark::Foreign => return bad(token, Reason::Foreign),
             };
         }
-        let end = lex::next_token(text, at);
+        let end = Token {
+            mark: Mark::End,
+            start: at,
+            end: at,
+        };
         Ok(Some(self.finish(verb, end)?))
     }
 
@@ -213,6 +217,9 @@ impl Reader {
     // Opens a form, if it may stand where it does; answers where the text goes on, as the next two do.
     fn open(&mut self, text: &[u8], token: Token) -> Result<usize, Trouble> {
         let head = lex::next_token(text, token.end);
+        if head.mark == Mark::End {
+            return bad(token, Reason::NoClose);
+        }
         let form = form_at(text, head)?;
         let sort = form::form_sort(form);
         if !form::takes(self.top.place(), sort, form::is_alias(form)) {

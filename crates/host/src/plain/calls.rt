@@ -1,10 +1,10 @@
 // The calls of a host: each answers and changes it as specs/Hosts.antt says, and a refused one leaves it as it was.
-ghost use mathlib.Core.Bool.{true, false, cond};
+ghost use mathlib.Core.Bool.{cond};
 ghost use mathlib.Core.List.{[], _∷_, _++_};
 ghost use mathlib.Core.Path.{_≡_};
 ghost use Prim.Native.Nat.{ℕ, _+_, _<_, _≤_, min};
 ghost use lib.Dec.{ltb, eqb};
-ghost use lib.ListN.{length, getD};
+ghost use lib.ListN.{getD};
 ghost use Rattle.std.specs.Of.Vec.{vec-len, vec-cap, vec-items};
 ghost use Rattle.std.specs.Vec.{made as on-ok, refused};
 ghost use Rattle.host.specs.Hosts.{count as how-many, opened, made, rooted, joined, Grown, Fresh, After-join};

@@ -1,8 +1,8 @@
 // The results of a walk, by handle. They are forgotten all at once, since each carries the round that it was found in.
 ghost use mathlib.Core.Path.{_≡_};
-ghost use Prim.Native.Nat.{ℕ, _+_, _<_, _≤_};
-ghost use lib.ListN.{length, getD, set};
-ghost use Rattle.std.specs.Of.Vec.{vec-len, vec-items};
+ghost use Prim.Native.Nat.{ℕ, _<_, _≤_};
+ghost use lib.ListN.{getD, set};
+ghost use Rattle.std.specs.Of.Vec.{vec-items};
 ghost use Rattle.std.specs.Vec.{made as on-ok};
 ghost use Rattle.std.specs.declared.option.Option.the-variants.{None};
 ghost use Rattle.solver.specs.Caches.{vacant, kept-in, held};

@@ -1,5 +1,4 @@
 // Where two canonical goals first differ.
-ghost use mathlib.Core.Path.{_≡_};
 ghost use Rattle.std.specs.Vec.{made as on-ok};
 ghost use Rattle.solver.specs.Differences.{Differ, Apart, Of-kinds, Tells};
 use crate::canonical::CanonicalGoal;

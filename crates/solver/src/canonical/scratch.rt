@@ -2,14 +2,13 @@
 ghost use mathlib.Core.Bool.{cond};
 ghost use mathlib.Core.List.{[], _∷_, _++_};
 ghost use mathlib.Core.Path.{_≡_};
-ghost use Prim.Native.Nat.{ℕ, _+_, _<_, _≤_};
+ghost use Prim.Native.Nat.{_<_, _≤_};
 ghost use lib.Dec.{ltb};
 ghost use lib.ListN.{length, getD};
 ghost use Rattle.std.specs.declared.option.Option.the-variants.{Some, None};
 ghost use Rattle.std.specs.Of.Vec.{vec-len, vec-cap, vec-items};
 ghost use Rattle.std.specs.Options.{Cases as BySome};
 ghost use Rattle.solver.specs.Names.{first-where, is-leaf, in-class, is-class};
-ghost use Rattle.std.specs.Results.{Cases};
 use crate::canonical::cache::Cache;
 use std::alloc::AllocError;
 use std::alloc::Global;
