@@ -11,6 +11,7 @@ use Rattle.terms.specs.declared.memory.entry.Entry.{Entry}
 use Rattle.terms.specs.declared.store.Store.{Store}
 use Rattle.terms.specs.Memory.{held, Kept, Placed, Fitted, Known, Deep, Low}
 use Rattle.terms.specs.Chains.{Heads, Nexts}
+use Rattle.terms.proofs.Cells.{length-held}
 use Rattle.terms.proofs.Stands.{Sound}
 
 -- how the numbers of a store lie to each other and to what is lent
@@ -41,12 +42,15 @@ Facts-of es hd xs len used limit room =
     × (Deep (take used xs) (take len es)
     × (Low (take len es)
     × (One-handle (held (take used xs) (take len es))
-    × ((used ≡ parts-held (held (take used xs) (take len es))) × Unit {0}))))))))))))))))
+    × ((len ≡ length (held (take used xs) (take len es)))
+    × ((used ≡ parts-held (held (take used xs) (take len es))) × Unit {0})))))))))))))))))
 
 pub packed : (es : List Entry) (hd xs : List ℕ) (len used limit room : ℕ) → Room (length es) (length hd) (length xs) len used limit room → Sound (take used xs) (take len es) hd → Facts-of es hd xs len used limit room
 packed es hd xs len used limit room r s =
     let l : used ≤ length xs = omega (arith, r .inside, r .lent-items) in
-    (r .within, (r .few, (r .lent, (r .indexed, (r .inside, (r .few-items, (r .lent-items, (s .firsts, (s .others, (s .kept, (s .placed, (s .fitted, (s .known, (s .deep, (s .low, (s .sole, (sym (length-take-le used xs l) ∙ s .counted, tt)))))))))))))))))
+    let k : len ≤ length es = omega (arith, r .within, r .lent) in
+    let long : len ≡ length (held (take used xs) (take len es)) = sym (length-held (take used xs) (take len es) ∙ length-take-le len es k) in
+    (r .within, (r .few, (r .lent, (r .indexed, (r .inside, (r .few-items, (r .lent-items, (s .firsts, (s .others, (s .kept, (s .placed, (s .fitted, (s .known, (s .deep, (s .low, (s .sole, (long, (sym (length-take-le used xs l) ∙ s .counted, tt))))))))))))))))))
 
 pub room-of : (s : Store) → Room (length (now (s .entries))) (length (now (s .buckets))) (length (now (s .items))) (s .len) (s .used) (s .limit) (s .room)
 room-of s =

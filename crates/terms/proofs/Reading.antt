@@ -1,23 +1,27 @@
 -- What is read of an entry is what its tree says.
 use mathlib.Core.Path.{_≡_, refl, sym, ap, subst, _∙_}
 use mathlib.Core.List.{List}
+use mathlib.Core.Option.{none, some}
 use Prim.Native.Nat.{ℕ, _+_, _<_, _≤_}
 use native.Mathlib.Omega.{arith}
 use denote.Ref.{now}
+use lib.Dec.{eqb}
 use lib.ListN.{length, getD, take, drop}
 use Rattle.std.proofs.shelf.Lists.{length-map, getD-map, getD-take, getD-drop, length-take-le, length-drop}
+use Rattle.std.proofs.shelf.Tests.{eq-eqb, ne-eqb}
 use Rattle.std.specs.declared.result.Result.{Result}
 use Rattle.std.specs.declared.result.Result.the-variants.{Ok, Err}
 use Rattle.theory.specs.declared.words.Node.{Node}
 use Rattle.theory.specs.declared.words.StoreFault.{StoreFault}
 use Rattle.theory.specs.declared.words.StoreFault.the-variants.{NoSuch, BadPart}
-use Rattle.theory.specs.Outcomes.{at, given, _>>=_}
-use Rattle.theory.specs.Trees.{Tree, nil, parts, seen, node-sort, facts, height, flags, outer}
-use Rattle.theory.specs.Store.{found, handle, get, part, sort-at, facts-at}
+use Rattle.theory.specs.Outcomes.{at, given, _>>=_, test}
+use Rattle.theory.specs.Trees.{Tree, nil, tree?, parts, seen, node-sort, facts, height, flags, outer}
+use Rattle.theory.specs.Store.{found, handle, get, part, sort-at, facts-at, One-handle}
 use Rattle.terms.specs.declared.memory.entry.Entry.{Entry}
 use Rattle.terms.specs.declared.store.Store.{Store}
 use Rattle.terms.specs.Memory.{count, vacant, handles-at}
 use Rattle.terms.specs.Means.{trees}
+use Rattle.terms.specs.Reads.{same-at}
 use Rattle.terms.proofs.Places.{at-in, at-out, trees-at, below-at}
 use Rattle.terms.proofs.Cells.{length-held, own-proper, own-tree, seen-of, parts-of, proper-below}
 use Rattle.terms.proofs.Pushed.{pool-of, entries-of, length-pool}
@@ -128,3 +132,31 @@ module _ (s : Store) (n : ℕ) (e : Entry) (h : (n < length (entries-of s)) × (
 
   pub parts-few : e .first + count (e .node) ≤ 16776960
   parts-few = omega (arith, within, length-pool s, s .inside, s .«few_items»)
+
+-- equal terms have one handle
+
+same-test : (m : List Tree) (a b : ℕ) → One-handle m → a < length m → b < length m → eqb a b ≡ test (tree? (getD m a nil) (getD m b nil))
+same-test m a b one la lb = by (tree? (getD m a nil) (getD m b nil))
+  where
+    by : (d : Dec (getD m a nil ≡ getD m b nil)) → eqb a b ≡ test d
+    by (yes e) = eq-eqb a b (sym (one a la) ∙ ap (handle m) e ∙ one b lb)
+    by (no n) = ne-eqb a b (λ e. n (ap (λ k. getD m k nil) e))
+
+module _ (s : Store) (a b : ℕ) where
+  pub same-ok : a < length (trees s) → b < length (trees s) → Ok (eqb a b) ≡ same-at (trees s) a b
+  unfolding same-at
+  same-ok la lb =
+      let p : at (trees s) a ≡ some (getD (trees s) a nil) = at-in (trees s) a la in
+      let q : at (trees s) b ≡ some (getD (trees s) b nil) = at-in (trees s) b lb in
+      ap Ok (same-test (trees s) a b (s .sole) la lb) ∙ rw (p, q) refl
+
+  pub same-left : (f : StoreFault) → f ≡ NoSuch a → length (trees s) ≤ a → Err f ≡ same-at (trees s) a b
+  unfolding same-at
+  same-left f e l = let p : at (trees s) a ≡ none = at-out (trees s) a l in ap Err e ∙ rw p refl
+
+  pub same-right : (f : StoreFault) → f ≡ NoSuch b → a < length (trees s) → length (trees s) ≤ b → Err f ≡ same-at (trees s) a b
+  unfolding same-at
+  same-right f e la l =
+      let p : at (trees s) a ≡ some (getD (trees s) a nil) = at-in (trees s) a la in
+      let q : at (trees s) b ≡ none = at-out (trees s) b l in
+      ap Err e ∙ rw (p, q) refl

@@ -40,5 +40,6 @@ pub struct Store<'a> {
     ghost deep: { Deep (take used (now items)) (take len (now entries)) },
     ghost low: { Low (take len (now entries)) },
     ghost sole: { One-handle (held (take used (now items)) (take len (now entries))) },
+    ghost long: { len ≡ length (held (take used (now items)) (take len (now entries))) },
     ghost counted: { used ≡ parts-held (held (take used (now items)) (take len (now entries))) },
 }

@@ -2,7 +2,7 @@
 ghost use mathlib.Core.Path.{_≡_};
 ghost use lib.ListN.{take};
 ghost use Rattle.theory.specs.Store.{get as read, part as part-at, facts-at, sort-at};
-ghost use Rattle.terms.specs.Reads.{Read-at, Reads, Compared};
+ghost use Rattle.terms.specs.Reads.{Read-at, Reads, same-at};
 ghost use Rattle.terms.specs.Means.{trees};
 use crate::forms::sort_of;
 use crate::memory::Entry;
@@ -61,9 +61,9 @@ impl Store<'_> {
 }
 
 impl Store<'_> {
-    // Whether two handles name equal terms: exactly when they are one handle.
+    // Whether two handles name equal terms. Equal terms have one handle, so this is whether they are one.
     pub fn is_same(&self, a: Handle, b: Handle) -> Result<bool, StoreFault>
-        ensures { λ r. ⌜ Compared (trees (now (self .entry))) a b r ⌝ }
+        ensures { λ r. ⌜ r ≡ same-at (trees (now (self .entry))) a b ⌝ }
     {
         self.entry(a)?;
         self.entry(b)?;

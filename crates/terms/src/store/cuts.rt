@@ -21,12 +21,18 @@ impl Store<'_> {
         self.used = e.first as usize;
     }
 
-    // Keeps the first `len` terms.
-    pub fn cut(&mut self, len: usize)
+    fn shorten_to(&mut self, len: usize)
         ensures { λ _. ⌜ means (now (self .exit)) ≡ cut-back (means (now (self .entry))) len ⌝ }
     {
         while self.len > len {
             self.shorten();
         }
+    }
+
+    // Keeps the first `len` terms; a store that is shorter stays as it is.
+    pub fn cut(&mut self, len: usize)
+        ensures { λ _. ⌜ means (now (self .exit)) ≡ cut-back (means (now (self .entry))) len ⌝ }
+    {
+        self.shorten_to(len);
     }
 }

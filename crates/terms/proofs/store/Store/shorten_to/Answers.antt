@@ -7,7 +7,7 @@ use Rattle.theory.specs.Store.{Contents, cut-back}
 use Rattle.terms.specs.Means.{trees, means}
 use Rattle.terms.proofs.Pushed.{length-entries}
 use Rattle.terms.proofs.Reading.{length-trees}
-use Rattle.terms.proofs.store.Store.cut.Needs as need
+use Rattle.terms.proofs.store.Store.shorten_to.Needs as need
 
 pub loop-self-again : need.loop-self-again
 loop-self-again c =
