@@ -9,13 +9,12 @@ use std::io::BufReader;
 use terms::Entry;
 use terms::Store;
 use theory::MOST_ENTRIES;
+use theory::MOST_PLACES;
 
-// The hash table of the store, the parts of all its terms, and the log of the host.
+// The hash table of the store, and the parts of all its terms.
 const BUCKETS: usize = 65_536;
 
 const ITEMS: usize = 1_048_576;
-
-const PLACES: u32 = 65_535;
 
 // Writes the answer to each line of a script.
 fn answer_all<R: BufRead + Drop>(
@@ -65,7 +64,7 @@ fn main(rt: LibcRuntime) -> io::Result<()> {
         buckets.as_mut_slice(),
         items.as_mut_slice(),
     );
-    let mut session = Session::new(heap, PLACES)?;
+    let mut session = Session::new(heap, MOST_PLACES)?;
     match script_path(&rt)? {
         Some(path) => {
             let file = open_script(&rt, path.as_str())?;

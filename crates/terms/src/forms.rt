@@ -2,6 +2,7 @@
 ghost use mathlib.Core.Path.{_≡_};
 ghost use Prim.Native.Nat.{ℕ, _≤_};
 ghost use Rattle.terms.specs.Survey.{beside, topped};
+ghost use Rattle.theory.specs.Limits.{highest};
 ghost use Rattle.theory.specs.Trees.{leaf, var-sort, leaf-sort, head-sort, node-sort, element, only, both, wants as wanted, least, takes, weight, opens, facts, leaf-flags, reach, var-flags, free, is-argument, is-alias, same-sort};
 use theory::ArgSort;
 use theory::Facts;
@@ -262,7 +263,7 @@ pub fn join_facts(a: Facts, b: Facts) -> Facts
 
 // What is found of a head over a row.
 pub fn top_facts(head: Head, row: Facts) -> Facts
-    requires { ⌜ row .height ≤ 64 ⌝ }
+    requires { ⌜ row .height ≤ highest ⌝ }
     ensures { λ r. ⌜ r ≡ topped head row ⌝ }
 {
     Facts {

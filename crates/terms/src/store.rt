@@ -8,6 +8,7 @@ ghost use mathlib.Core.Path.{_≡_};
 ghost use Prim.Native.Nat.{ℕ, _+_, _*_, _≤_, _<_};
 ghost use denote.Ref.{now};
 ghost use lib.ListN.{length, take};
+ghost use Rattle.theory.specs.Limits.{most-entries, most-items};
 ghost use Rattle.theory.specs.Store.{One-handle, used as parts-held};
 ghost use Rattle.terms.specs.Memory.{held, Kept, Placed, Fitted, Known, Deep, Low};
 ghost use Rattle.terms.specs.Chains.{Heads, Nexts};
@@ -25,11 +26,11 @@ pub struct Store<'a> {
     limit: usize,
     room: usize,
     ghost within: { len ≤ limit },
-    ghost few: { limit ≤ 65535 },
+    ghost few: { limit ≤ most-entries },
     ghost lent: { limit ≤ length (now entries) },
-    ghost indexed: { limit ≤ 65535 * length (now buckets) },
+    ghost indexed: { limit ≤ most-entries * length (now buckets) },
     ghost inside: { used ≤ room },
-    ghost few_items: { room ≤ 16776960 },
+    ghost few_items: { room ≤ most-items },
     ghost lent_items: { room ≤ length (now items) },
     ghost firsts: { Heads (take len (now entries)) (now buckets) },
     ghost others: { Nexts (take len (now entries)) (length (now buckets)) },

@@ -7,6 +7,8 @@ pub use limits::HIGHEST;
 pub use limits::LONGEST;
 pub use limits::MOST_ENTRIES;
 pub use limits::MOST_ITEMS;
+pub use limits::MOST_NAMES;
+pub use limits::MOST_PLACES;
 pub use words::ArgSort;
 pub use words::ArgSortPartialEq;
 pub use words::Code;

@@ -9,5 +9,11 @@ pub const LONGEST: usize = 256;
 // The entries of a store.
 pub const MOST_ENTRIES: usize = 65_535;
 
+// The names of one goal.
+pub const MOST_NAMES: u32 = 256;
+
+// The places of a log.
+pub const MOST_PLACES: u32 = 65_535;
+
 // The parts of all entries of a store: no entry has more than a list of the greatest length.
 pub const MOST_ITEMS: usize = 16_776_960;

@@ -13,10 +13,8 @@ use crate::fault::VariableSort;
 use crate::plain::PlainHost;
 use std::alloc::AllocError;
 use std::alloc::Global;
+use theory::MOST_PLACES;
 use theory::Universe;
-
-// Places of a log that are used at most.
-const MOST_PLACES: u32 = 65_535;
 
 impl PlainHost {
     // A host with no event, whose log has the places given, and at most 65,535 of them.

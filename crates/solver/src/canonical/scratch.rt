@@ -15,10 +15,8 @@ use std::alloc::Global;
 use theory::Handle;
 use theory::Head;
 use theory::Kind;
+use theory::MOST_NAMES;
 use theory::StoreFault;
-
-// The names of one goal.
-pub const MOST_NAMES: u32 = 256;
 
 // Terms that are open at once: a term of the greatest height opens itself, and every second one is a list.
 const MOST_OPEN: usize = 128;

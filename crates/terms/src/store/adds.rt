@@ -4,6 +4,7 @@ ghost use mathlib.Core.Bool.{true};
 ghost use mathlib.Core.List.{_++_};
 ghost use Prim.Native.Nat.{ℕ, _+_, _≤_, _<_};
 ghost use lib.ListN.{length, take};
+ghost use Rattle.theory.specs.Limits.{highest, longest};
 ghost use Rattle.theory.specs.Trees.{facts as facts-of};
 ghost use Rattle.theory.specs.Outcomes.{answered};
 ghost use Rattle.theory.specs.Store.{put, with-tree, add-leaf as leaf-added, add-node as node-added};
@@ -76,7 +77,7 @@ impl Store<'_> {
         requires hash { ⌜ hash ≡ hashed node (now parts) ⌝ }
         requires fit { ⌜ fits (trees (now self)) node (now parts) ≡ true ⌝ }
         requires facts { ⌜ facts ≡ facts-of (tree-of (trees (now self)) (cell node (now parts))) ⌝ }
-        requires low { ⌜ facts .height ≤ 64 ⌝ ∗ ⌜ length (now parts) ≤ 256 ⌝ }
+        requires low { ⌜ facts .height ≤ highest ⌝ ∗ ⌜ length (now parts) ≤ longest ⌝ }
         requires fresh { ⌜ Sought (take (now self .used) (now (now self .items))) (take (now self .len) (now (now self .entries))) (cell node (now parts)) None ⌝ }
         ensures value { λ r. ⌜ r ≡ length (trees (now (self .entry))) ⌝ }
         ensures after { λ _. ⌜ means (now (self .exit)) ≡ with-tree (means (now (self .entry))) (tree-of (trees (now (self .entry))) (cell node (now (parts .entry)))) ⌝ }

@@ -17,10 +17,14 @@ returns-then-at-self c =
     let far : length (trees s) ≤ n = omega (arith, length-trees s) in
     record {
       memory = (out, refl);
-      meaning =
-          ( get-err s n _ (out, refl), facts-err s n _ (out, refl), sort-err s n _ (out, refl), part-err s n _ (out, refl)
-          , λ q. same-left s n q _ refl far
-          , λ p l. same-right s p n _ refl l far )
+      meaning = (
+        get-err s n _ (out, refl),
+        facts-err s n _ (out, refl),
+        sort-err s n _ (out, refl),
+        part-err s n _ (out, refl),
+        λ q. same-left s n q _ refl far,
+        λ p l. same-right s p n _ refl l far,
+      );
     }
 
 pub returns : need.returns
@@ -28,13 +32,20 @@ returns c =
     let s = c .args .self .now in
     let n = c .args .term in
     let r : (n < length (entries-of s)) × (getD (s .entries .now) n vacant ≡ getD (entries-of s) n vacant) =
-        (omega (arith, length-entries s), sym (getD-take (s .len) (s .entries .now) n vacant (c .if-at-self .left)))
+    (omega (arith, length-entries s), sym (getD-take (s .len) (s .entries .now) n vacant (c .if-at-self .left)))
     in
     let near : n < length (trees s) = omega (arith, r .0, length-trees s) in
     record {
       memory = r;
-      meaning =
-          ( get-ok s n _ r, facts-ok s n _ r, sort-ok s n _ r, part-some s n _ r, part-none s n _ r, part-lent s n _ r, parts-few s n _ r
-          , near
-          , λ q l. same-ok s n q near l )
+      meaning = (
+        get-ok s n _ r,
+        facts-ok s n _ r,
+        sort-ok s n _ r,
+        part-some s n _ r,
+        part-none s n _ r,
+        part-lent s n _ r,
+        parts-few s n _ r,
+        near,
+        λ q l. same-ok s n q near l,
+      );
     }
