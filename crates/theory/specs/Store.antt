@@ -101,3 +101,17 @@ cut-back c n = record { trees = take n (c .trees); entries = c .entries; items =
 -- equal terms have one handle: the handle of the tree at a place is that place
 abbrev pub One-handle : List Tree → Type 0
 One-handle m = (i : ℕ) → i < length m → handle m (getD m i nil) ≡ i
+
+-- the second contents begin with the first, and the room is the same: each handle of the first names what it named
+pub record Grown (c d : Contents) : Type 0 where
+  pub front : take (length (c .trees)) (d .trees) ≡ c .trees
+  pub entries : d .entries ≡ c .entries
+  pub items : d .items ≡ c .items
+
+-- A handle means one tree for ever: what is held stays at its place whatever is added, and after any two stages of adding;
+-- and what was only added to, cut back to its length, is as it was.
+pub record Handles-last : Type 0 where
+  pub by-leaf : (c : Contents) (x : Leaf) → Grown c (add-leaf c x .1)
+  pub by-node : (c : Contents) (h : Head) (ns : List ℕ) → Grown c (add-node c h ns .1)
+  pub by-stages : (c d e : Contents) → Grown c d → Grown d e → Grown c e
+  pub back : (c d : Contents) → Grown c d → cut-back d (length (c .trees)) ≡ c

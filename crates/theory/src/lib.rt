@@ -1,8 +1,10 @@
 // The words that code and specifications share: sorts, kinds, leaves, heads, the faults of a store, and the limits.
 // The definitions in specs/ speak of these same types, so that no translation stands between a contract and its meaning.
+mod laws;
 mod limits;
 mod words;
 
+pub use laws::handles_last;
 pub use limits::HIGHEST;
 pub use limits::LONGEST;
 pub use limits::MOST_ENTRIES;
