@@ -27,7 +27,7 @@ grown-then c d e g h =
       front =
           sym (take-take (length (c .trees)) (length (d .trees)) (e .trees) short) ∙ ap (take (length (c .trees))) (h .front) ∙ g .front;
       entries = h .entries ∙ g .entries;
-      items = h .items ∙ g .items
+      items = h .items ∙ g .items;
     }
 
 -- cut back to its length, it is as it was
@@ -50,8 +50,8 @@ grown-put c t =
     let same = grown-same c in
     grown-if c (holds (c .trees) t) _ _ same
     (grown-if c (has-room c t) _ _
-      (grown-if c (ltb highest (height t)) _ _ same (grown-if c (ltb longest (length (parts t))) _ _ same (grown-tree c t)))
-      same)
+    (grown-if c (ltb highest (height t)) _ _ same (grown-if c (ltb longest (length (parts t))) _ _ same (grown-tree c t)))
+    same)
 
 pub grown-leaf : (c : Contents) (x : Leaf) → Grown c (add-leaf c x .1)
 unfolding add-leaf

@@ -4,5 +4,4 @@ ghost use Rattle.theory.specs.Store.{Handles-last};
 // A handle means one tree for ever, and a store that was only added to can be cut back to what it was.
 pub fn handles_last()
     ensures { λ _. ⌜ Handles-last ⌝ }
-{
-}
+{}
