@@ -137,7 +137,7 @@ def respell(text, names, mark):
     out = []
     for line in text.split("\n"):
         code, note = code_of(line, mark)
-        if "Goals.{" in code or "Given.{" in code:
+        if ".proofs." in code and ("Goals.{" in code or "Given.{" in code):
             out.append(line)
             continue
 

@@ -1,4 +1,6 @@
 // Adds 60,000 distinct terms to a store and looks each up again 20 times. bench/store.rs does the same in Rust.
+#![tactic(auto)]
+
 use terms::{Entry, Store};
 use theory::{ArgSort, Handle, Head, Leaf, ListSort, StoreFault, VarSort};
 

@@ -1,4 +1,6 @@
 // canon: answers a script of goals, line by line, from a file or from standard input.
+#![tactic(auto)]
+
 use script::Session;
 use std::fs::File;
 use std::io::{BufRead, BufReader};

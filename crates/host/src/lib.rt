@@ -1,4 +1,6 @@
 // A host on which universes are opened, variables made and sub classes joined.
+#![tactic(auto)]
+
 mod fault;
 mod plain;
 

@@ -1,4 +1,6 @@
 // The one map, over memory that the caller lends, for keys with an equality and a hash.
+#![tactic(auto)]
+
 mod key;
 mod map;
 mod slot;

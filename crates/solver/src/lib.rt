@@ -1,5 +1,7 @@
 // Canonical goals: a goal with its names numbered in the order in which they are met, so that goals that differ only in
 // their names are equal.
+#![tactic(auto)]
+
 mod canonical;
 
 pub use canonical::compare::{Difference, compare};

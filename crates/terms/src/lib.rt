@@ -1,4 +1,6 @@
 // The store of terms: every term stands in it once, and a handle names it.
+#![tactic(auto)]
+
 mod forms;
 mod hash;
 mod memory;

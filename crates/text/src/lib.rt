@@ -1,4 +1,6 @@
 // The text form: reads the lines of a script, prints the values of a store and words why a line cannot be read.
+#![tactic(auto)]
+
 mod build;
 mod form;
 mod lex;

@@ -1,18 +1,18 @@
 -- A fold of what was folded before gives the same tree, and changes neither state nor store: so a cache changes no result.
-use Rattle.std.proofs.Common.{◌≡◌, ℕ, ◌+◌, ◌<◌, Bool, true, false, cond, ltb, List, [], ◌∷◌, length, Ok, Err, Result, sym, refl, ap, ◌∙◌, subst, arith}
+use Rattle.std.proofs.Common.{◌≡◌, ℕ, ◌+◌, ◌<◌, Bool, true, false, List, length, Ok, Result, sym, refl, ap, ◌∙◌, subst}
 use Rattle.std.proofs.lemmas.Bool.{cond-true, lt-ltb}
 use Rattle.theory.specs.declared.words.ListSort.TheVariants.{Arguments}
 use Rattle.theory.specs.declared.words.Leaf.{Leaf}
 use Rattle.theory.specs.declared.words.Head.{Head}
 use Rattle.theory.specs.declared.words.Head.TheVariants.{List as AList}
 use Rattle.theory.specs.declared.words.StoreFault.{StoreFault}
-use Rattle.theory.specs.Outcomes.{◌>>=◌, raised, StandsAt}
+use Rattle.theory.specs.Outcomes.{◌>>=◌, raised}
 use Rattle.theory.specs.Trees.{Tree, leaf, node, nil, cons, applies, opens}
 use Rattle.theory.specs.Store.{Contents, handle, holds, put_new, put, Grown}
 use Rattle.theory.specs.Folds.{Folded, folded, put_list, rebuild, fold}
 use Rattle.theory.proofs.Growth.{grown-then}
-use Rattle.theory.proofs.Steps.{never_ok, none_some, ok_one, bind_ok, raised_ok}
-use Rattle.theory.proofs.Holding.{Held, held_more, handle-stands, below, Put, put_ok, list_grown, rebuild_ok, fold-leaf, fold-node, fold-nil, fold-cons}
+use Rattle.theory.proofs.Steps.{ok_one, bind_ok, raised_ok}
+use Rattle.theory.proofs.Holding.{Held, held_more, handle-stands, below, Put, put_ok, rebuild_ok, fold-leaf, fold-node, fold-nil, fold-cons}
 
 -- a tree that is held is put without a change
 pub held-put : (c : Contents) (t : Tree) → Held c.trees t → put c t ≡ Ok (handle c.trees t, c)

@@ -1,14 +1,14 @@
 -- From one canonical form to a pairing: the entries of the two tables, number by number. And reading back: the entries of a
 -- table, put for the canonical variables that a walk wrote, give the tree that was walked.
 use Rattle.std.proofs.Common.{◌≡◌, ℕ, zero, suc, Bool, true, false, cond, ◌&&◌, eqb, ◌⊎◌, ◌↔◌, List, [], ◌∷◌, map, get_or, sym, refl, ap, ◌∙◌, subst, ap₂, inl, inr, arith}
-use mathlib.Core.Option.{Option, none, some}
+use mathlib.Core.Option.{none, some}
 use Rattle.theory.specs.declared.words.ArgSort.{ArgSort}
 use Rattle.theory.specs.declared.words.Leaf.{Leaf}
 use Rattle.theory.specs.declared.words.Leaf.TheVariants.{Canonical}
 use Rattle.theory.specs.Trees.{Tree, leaf, node, nil, cons}
 use Rattle.theory.specs.Forms.{canonical_number}
-use Rattle.theory.specs.Names.{Part, Form, is_name, Name, Partners, Carries, kept, swapped, in_node, in_nil, in_cons, OneToOne, put_back}
-use Rattle.theory.proofs.Numbering.{place, note, after, Moment, sort_of, typed, written, Rooted, first_of, root_in, rooted, eqb_sound, eqb_complete, At, Distinct, at_leaf, at-number, not_both, noted, after_keeps, after_distinct, after_back}
+use Rattle.theory.specs.Names.{Part, is_name, Name, Partners, Carries, kept, swapped, in_node, in_nil, in_cons, put_back}
+use Rattle.theory.proofs.Numbering.{place, note, after, Moment, sort_of, typed, written, first_of, root_in, rooted, eqb_sound, eqb_complete, At, Distinct, at_leaf, at-number, not_both, noted, after_keeps, after_distinct, after_back}
 use Rattle.theory.proofs.Partnered.{Halves, NameIn, first_names, names, Renamed, OneForm}
 
 -- no canonical variable stands in a tree

@@ -1,5 +1,5 @@
 -- What calls that only add leave begins with what was there; cut back, it is what was there.
-use Rattle.std.proofs.Common.{◌≡◌, ℕ, ◌≤◌, Bool, true, false, cond, ltb, List, [], ◌∷◌, ◌++◌, length, take, Ok, Err, Result, sym, refl, ap, ◌∙◌, arith}
+use Rattle.std.proofs.Common.{◌≡◌, ℕ, ◌≤◌, Bool, true, false, cond, ltb, List, [], ◌∷◌, length, take, Ok, Err, Result, sym, refl, ap, ◌∙◌, arith}
 use Rattle.std.proofs.lemmas.List.{take_all, take-take, take_at, length-take}
 use Rattle.theory.specs.declared.words.Leaf.{Leaf}
 use Rattle.theory.specs.declared.words.Head.{Head}
@@ -7,7 +7,7 @@ use Rattle.theory.specs.declared.words.StoreFault.{StoreFault}
 use Rattle.theory.specs.Limits.{highest, longest}
 use Rattle.theory.specs.Outcomes.{◌>>=◌, answered}
 use Rattle.theory.specs.Trees.{Tree, leaf, parts, assembled, height}
-use Rattle.theory.specs.Store.{Contents, holds, handle, has_room, with_tree, put_new, put, checked, add_leaf, add_node, cut_back, Grown}
+use Rattle.theory.specs.Store.{Contents, holds, has_room, with_tree, put, checked, add_leaf, add_node, cut_back, Grown}
 
 pub grown_same : (c : Contents) → Grown c c
 grown_same c = record { front = take_all (length c.trees) c.trees (omega arith); entries = refl; items = refl }

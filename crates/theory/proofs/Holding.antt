@@ -1,7 +1,7 @@
 -- What a store holds after calls that were accepted: it has only grown, and a tree that was put stands at its handle.
 -- The same of the one fold.
 use Rattle.std.proofs.Common.{◌≡◌, ℕ, zero, suc, ◌+◌, ◌<◌, Bool, true, false, cond, ltb, List, [], ◌∷◌, ◌++◌, length, get_or, take, Ok, Err, Result, sym, refl, ap, ◌∙◌, subst, arith, ltb-true}
-use mathlib.Core.Option.{Option, none, some}
+use mathlib.Core.Option.{Option, some}
 use Rattle.theory.specs.declared.words.ListSort.TheVariants.{Arguments}
 use Rattle.theory.specs.declared.words.Leaf.{Leaf}
 use Rattle.theory.specs.declared.words.Head.{Head}
@@ -9,7 +9,7 @@ use Rattle.theory.specs.declared.words.Head.TheVariants.{List as AList}
 use Rattle.theory.specs.declared.words.StoreFault.{StoreFault}
 use Rattle.theory.specs.declared.words.StoreFault.TheVariants.{Full, TooHigh, TooLong}
 use Rattle.theory.specs.Limits.{highest, longest}
-use Rattle.theory.specs.Outcomes.{◌>>=◌, answered, raised, test, at, StandsAt}
+use Rattle.theory.specs.Outcomes.{◌>>=◌, answered, raised, test, StandsAt}
 use Rattle.theory.specs.Trees.{Tree, leaf, node, nil, cons, tree?, parts, height, applies, opens}
 use Rattle.theory.specs.Store.{Contents, handle, holds, has_room, with_tree, put_new, put, stored, stored_all, OneHandle, Grown}
 use Rattle.theory.specs.Forms.{is_entry}

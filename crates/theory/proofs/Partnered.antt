@@ -1,13 +1,13 @@
 -- From a pairing to one canonical form: the two tables correspond entry by entry throughout the two walks.
 -- A value is walked in two parts: what stands in the part p first, then the rest, in the part q.
-use Rattle.std.proofs.Common.{◌≡◌, ℕ, zero, suc, Bool, true, false, cond, ◌&&◌, eqb, ◌⊎◌, ◌↔◌, List, [], ◌∷◌, map, sym, refl, ap, ◌∙◌, subst, ap₂, inl, inr}
+use Rattle.std.proofs.Common.{◌≡◌, ℕ, suc, Bool, true, false, cond, ◌&&◌, eqb, ◌⊎◌, ◌↔◌, List, [], ◌∷◌, map, sym, refl, ap, subst, ap₂}
 use mathlib.Core.Option.{Option, none, some}
 use Rattle.theory.specs.declared.words.Leaf.{Leaf}
 use Rattle.theory.specs.declared.words.Leaf.TheVariants.{Canonical}
 use Rattle.theory.specs.Outcomes.{test}
 use Rattle.theory.specs.Codes.{leaf?}
-use Rattle.theory.specs.Trees.{Tree, leaf, node, nil, cons}
-use Rattle.theory.specs.Names.{Part, Form, is_name, Name, Partners, Carries, kept, swapped, in_node, in_nil, in_cons, OneToOne}
+use Rattle.theory.specs.Trees.{Tree, leaf, node, cons}
+use Rattle.theory.specs.Names.{Part, Name, Partners, Carries, kept, swapped, in_node, in_nil, in_cons, OneToOne}
 use Rattle.theory.proofs.Numbering.{place, note, after, Moment, sort_of, typed, written, Rooted, first_of, root_in, rooted, eqb_sound, eqb_complete, not_both}
 
 pub record Halves : Type 0 where

@@ -1,5 +1,5 @@
 -- Steps that are accepted: what follows from the answer `Ok`.
-use Rattle.std.proofs.Common.{◌≡◌, ℕ, Bool, true, false, List, [], ◌∷◌, Ok, Err, Result, refl, ap, arith}
+use Rattle.std.proofs.Common.{◌≡◌, ℕ, Bool, true, false, Ok, Err, Result, refl, ap, arith}
 use mathlib.Core.Option.{Option, none, some}
 use Rattle.theory.specs.Outcomes.{◌>>=◌, must, mustn't, raised, given}
 

@@ -1,15 +1,11 @@
 -- Leaves and heads as numbers: a tag and two numbers. A leaf or a head is read back from its code, so that their
 -- equality is decided, and a hash of the code is a hash of the leaf or head.
-use Rattle.std.specs.Prelude.{◌≡◌, ℕ, Bool, true, false, [], ◌∷◌, slice_index_or, refl}
+use Rattle.std.specs.Prelude.{◌≡◌, ℕ, true, false, [], ◌∷◌, slice_index_or, refl}
 use Rattle.std.proofs.Common.{sym, ap, ◌∙◌}
 use Rattle.std.proofs.Math.Decide.{ℕ_discrete}
-use Rattle.theory.specs.declared.words.ArgSort.{ArgSort}
 use Rattle.theory.specs.declared.words.ArgSort.TheVariants.{Ty as ty, Region as region, Const as const}
-use Rattle.theory.specs.declared.words.VarSort.{VarSort}
 use Rattle.theory.specs.declared.words.VarSort.TheVariants.{Ty as v_ty, Int as v_int, Float as v_float, Const as v_const}
-use Rattle.theory.specs.declared.words.ListSort.{ListSort}
 use Rattle.theory.specs.declared.words.ListSort.TheVariants.{Arguments, Environment, OpaquePairs, Goals, Constraints, Kinds}
-use Rattle.theory.specs.declared.words.Kind.{Kind}
 use Rattle.theory.specs.declared.words.Kind.TheVariants.{Ty as k_ty, Int as k_int, Float as k_float, Region as k_region, Const as k_const, Placeholder as k_placeholder}
 use Rattle.theory.specs.declared.words.Code.{Code}
 use Rattle.theory.specs.declared.words.Leaf.{Leaf}

@@ -7,7 +7,7 @@ use Rattle.theory.specs.declared.words.VariableSort.{VariableSort}
 use Rattle.theory.specs.declared.words.Leaf.TheVariants.{Variable}
 use Rattle.theory.specs.Limits.{most_marks}
 use Rattle.theory.specs.Outcomes.{◌>>=◌, must, raised}
-use Rattle.theory.specs.Trees.{Tree, leaf, items}
+use Rattle.theory.specs.Trees.{Tree, leaf}
 use Rattle.theory.specs.Store.{Contents, put}
 use Rattle.theory.specs.Forms.{variable_of}
 use Rattle.theory.specs.Faults.{HostFault, in_store, unknown_number, unknown_universe, log_full, marks_full, not_newest}

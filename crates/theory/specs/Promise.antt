@@ -8,7 +8,7 @@ use Rattle.theory.specs.Trees.{Tree, leaf, node, nil, cons}
 use Rattle.theory.specs.Forms.{elements, kinds_in}
 use Rattle.theory.specs.Log.{Log}
 use Rattle.theory.specs.Host.{Sizes}
-use Rattle.theory.specs.Goals.{Asked, Goal, Canonical-goal}
+use Rattle.theory.specs.Goals.{Asked, Goal, CanonicalGoal}
 use Rattle.theory.specs.Applying.{Reply, pairwise, constraints_in, equalities}
 use Rattle.theory.specs.Runs.{Call, relating, asking, applying, marking, undoing, Reported, done, asked, applied, Done, run}
 use Rattle.theory.specs.Pairing.{Paired, Stands}

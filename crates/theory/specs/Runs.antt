@@ -15,7 +15,7 @@ use Rattle.theory.specs.Faults.{HostFault, in_store, Fault, in_host, from_store}
 use Rattle.theory.specs.Log.{Log, universes}
 use Rattle.theory.specs.Host.{Host, open_universe, join, mark, keep, undo, Context, Sizes, new_context, make_variable}
 use Rattle.theory.specs.Relate.{relate}
-use Rattle.theory.specs.Goals.{Asked, Canonical-goal, canonicalize-goal}
+use Rattle.theory.specs.Goals.{Asked, CanonicalGoal, canonicalize_goal}
 use Rattle.theory.specs.Applying.{Reply, apply}
 
 -- The nine calls, and additions of terms. A new variable has a sort and a universe; `relating` two handles; `joining` two numbers

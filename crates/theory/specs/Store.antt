@@ -1,6 +1,6 @@
 -- A store by what it means: the trees that it holds, in order, and its room. A handle is a place in that list.
 -- Nothing held ever changes; a new tree goes to the end.
-use Rattle.std.specs.Prelude.{◌≡◌, ℕ, zero, suc, ◌+◌, ◌<◌, Bool, true, false, cond, ◌&&◌, List, [], ◌∷◌, ◌++◌, length, take, Ok, Err, Result, nat_le, nat_lt, slice_index_or}
+use Rattle.std.specs.Prelude.{◌≡◌, ℕ, suc, ◌+◌, ◌<◌, Bool, cond, ◌&&◌, List, [], ◌∷◌, ◌++◌, length, take, Ok, Err, Result, nat_le, nat_lt, slice_index_or}
 use Rattle.std.proofs.Math.Option.{Option, none, some}
 use Rattle.theory.specs.declared.words.Leaf.{Leaf}
 use Rattle.theory.specs.declared.words.Head.{Head}
@@ -11,7 +11,7 @@ use Rattle.theory.specs.declared.words.StoreFault.{StoreFault}
 use Rattle.theory.specs.declared.words.StoreFault.TheVariants.{NoSuch, BadPart, Full, TooHigh, TooLong}
 use Rattle.theory.specs.Limits.{highest, longest}
 use Rattle.theory.specs.Outcomes.{◌>>=◌, given, answered, must, test, at}
-use Rattle.theory.specs.Trees.{Tree, leaf, node, nil, tree?, parts, seen, node_sort, same_sort, assembled, takes, least, height, facts}
+use Rattle.theory.specs.Trees.{Tree, leaf, nil, tree?, parts, seen, node_sort, same_sort, assembled, takes, least, height, facts}
 
 -- the trees held, and how many entries and parts of entries there is memory for
 pub record Contents : Type 0 where

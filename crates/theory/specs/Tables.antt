@@ -1,6 +1,6 @@
 -- Tables of names: the step that every canonicalizing walk takes at a leaf. A name becomes a canonical variable, of the number
 -- that it has or of the next one; the first time its kind is listed.
-use Rattle.std.specs.Prelude.{ℕ, suc, Bool, true, false, cond, ◌&&◌, List, [], ◌∷◌, ◌++◌, map, length, Ok, Err, Result, ◌==◌, nat_lt}
+use Rattle.std.specs.Prelude.{ℕ, suc, Bool, false, cond, List, [], ◌∷◌, ◌++◌, map, length, Ok, Err, Result, ◌==◌, nat_lt}
 use Rattle.std.proofs.Math.Option.{Option, none, some, get_or}
 use Rattle.theory.specs.declared.words.ArgSort.{ArgSort}
 use Rattle.theory.specs.declared.words.ListSort.TheVariants.{Kinds}

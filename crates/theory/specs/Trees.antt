@@ -19,7 +19,6 @@ use Rattle.theory.specs.declared.words.Node.TheVariants.{Leaf as ALeaf, Over}
 use Rattle.theory.specs.declared.words.Want.{Want}
 use Rattle.theory.specs.declared.words.Want.TheVariants.{Nothing, Argument as AnArgument, Alias as AnAlias, Of}
 use Rattle.theory.specs.declared.words.Facts.{Facts}
-use Rattle.theory.specs.Outcomes.{test}
 use Rattle.theory.specs.Codes.{leaf?, head?}
 
 pub data Tree : Type 0 where

@@ -1,5 +1,7 @@
 // The words that code and specifications share: sorts, kinds, leaves, heads, the faults of a store, and the limits.
 // The definitions in specs/ speak of these same types, so that no translation stands between a contract and its meaning.
+#![tactic(auto)]
+
 mod laws;
 mod limits;
 mod words;

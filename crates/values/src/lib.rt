@@ -1,4 +1,6 @@
 // Foldable values: a list of root terms, and a rest that no walk touches.
+#![tactic(auto)]
+
 mod forms;
 mod value;
 

@@ -1,7 +1,7 @@
 // The canonicalizer: names become canonical variables, in walk order, parts before wholes.
 ghost use Rattle.std.specs.Prelude.{◌≡◌, true, IfOk, IfErr};
 ghost use Rattle.theory.specs.Outcomes.{answered};
-ghost use Rattle.solver.specs.Goals.{leaf-variable, known, form-sort, entered, numbered};
+ghost use Rattle.solver.specs.Goals.{leaf_variable, known, form_sort, entered, numbered};
 ghost use Rattle.solver.specs.Numbers.{call_number, of_goal, FaultOfGoal, HostFaultOfGoal};
 
 use crate::canonical::forms::{Form, Part, form_in_goal};

@@ -1,6 +1,6 @@
 // The one decision of canonicalizing: which leaves are names, and of which form.
 ghost use Rattle.std.specs.Prelude.{◌≡◌};
-ghost use Rattle.solver.specs.Goals.{goal-form};
+ghost use Rattle.solver.specs.Goals.{goal_form};
 
 use theory::{ArgSort, Leaf, VarSort};
 

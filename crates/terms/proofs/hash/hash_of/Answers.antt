@@ -17,4 +17,4 @@ pub returns : goal.returns
 unfolding hashed
 returns c =
     let l = c.loop-part in
-    c.finish.ensures ∙ ap finished (sym (at_drop_all (parts_hash l.hash) c.args.parts.now l.part-index c.loop-part-test.false) ∙ l.invariant ∙ ap (λ h. parts_hash h c.args.parts.now) c.hash-of-node-hash.ensures)
+    c.finish.ensures ∙ ap finished (sym (at_drop_all (parts_hash l.hash) c.args.parts.now l.part-index c.loop-part-test.false) ∙ l.invariant ∙ ap (λ h. parts_hash h c.args.parts.now) c.hash_of_node-hash.ensures)

@@ -21,7 +21,7 @@ returns-then-self c =
     let s = c.args.self.now in
     let k = cell c.args.node c.args.parts.now in
     let p : Proper (trees s) k = record { fit = c.requires.fit; all = c.requires.parts } in
-    put_full s k p c.in-default.ensures
+    put_full s k p c.in_default.ensures
     (elim c.then-self.branch [ then-self-via-then-self w ↦ inl w.if-self.true | then-self-via-else-self+then-parts-self w ↦ inr w.if-parts-self.true ])
 
 pub returns-then-facts-gt-HIGHEST : goal.returns-then-facts-gt-HIGHEST
@@ -30,7 +30,7 @@ returns-then-facts-gt-HIGHEST c =
     let k = cell c.args.node c.args.parts.now in
     let p : Proper (trees s) k = record { fit = c.requires.fit; all = c.requires.parts } in
     let is : c.args.facts.height ≡ height (tree_of (trees s) k) = ap (λ (f : Facts). f.height) c.requires.facts in
-    put_high s k p c.in-default.ensures c.if-self.false c.if-parts-self.false (omega (arith, is, c.if-facts-gt-HIGHEST.true))
+    put_high s k p c.in_default.ensures c.if-self.false c.if-parts-self.false (omega (arith, is, c.if-facts-gt-HIGHEST.true))
 
 pub returns-then-parts-gt-LONGEST : goal.returns-then-parts-gt-LONGEST
 returns-then-parts-gt-LONGEST c =
@@ -38,7 +38,7 @@ returns-then-parts-gt-LONGEST c =
     let k = cell c.args.node c.args.parts.now in
     let p : Proper (trees s) k = record { fit = c.requires.fit; all = c.requires.parts } in
     let is : c.args.facts.height ≡ height (tree_of (trees s) k) = ap (λ (f : Facts). f.height) c.requires.facts in
-    put_long s k p c.in-default.ensures c.if-self.false c.if-parts-self.false (omega (arith, is, c.if-facts-gt-HIGHEST.false)) c.if-parts-gt-LONGEST.true
+    put_long s k p c.in_default.ensures c.if-self.false c.if-parts-self.false (omega (arith, is, c.if-facts-gt-HIGHEST.false)) c.if-parts-gt-LONGEST.true
 
 pub returns : goal.returns
 returns c =
@@ -48,4 +48,4 @@ returns c =
     let is : c.args.facts.height ≡ height (tree_of (trees s) k) = ap (λ (f : Facts). f.height) c.requires.facts in
     ap (λ n. (Ok n, means c.push.new.self)) c.push.ensures.value
     ∙ ap (λ m. (Ok (length (trees s)), m)) c.push.ensures.after
-    ∙ put_new s k p c.in-default.ensures c.if-self.false c.if-parts-self.false (omega (arith, is, c.if-facts-gt-HIGHEST.false)) c.if-parts-gt-LONGEST.false
+    ∙ put_new s k p c.in_default.ensures c.if-self.false c.if-parts-self.false (omega (arith, is, c.if-facts-gt-HIGHEST.false)) c.if-parts-gt-LONGEST.false

@@ -61,8 +61,8 @@ invariant-of-self-2 c =
 
 pub returns : goal.returns
 returns c =
-    let s = c.write-parts.new.self in
-    let w = c.write-parts.ensures in
+    let s = c.write_parts.new.self in
+    let w = c.write_parts.ensures in
     let s0 = c.args.self.now in
     let ps = c.args.parts.now in
     let b = c.args.hash % length s0.buckets.now in

@@ -36,15 +36,15 @@ loop-k-preserved c =
     let s = c.args.self.now in
     let l = c.loop-k in
     let xs = c.args.parts.now in
-    let e = c.in-ok-e.e in
-    let r = c.in-ok-e.ensures.memory in
+    let e = c.in_ok-e.e in
+    let r = c.in_ok-e.ensures.memory in
     let low : e.facts.height ≤ 64 = subst (λ (x : Entry). x.facts.height ≤ 64) (sym r.1) (s.low (get_or xs l.k 0) r.0).0 in (
-      ap (λ k. surveyed (trees s) c.args.head k (drop (l.k + 1) xs) c.join-facts-all.result) (add-one l.k)
-          ∙ ap (surveyed (trees s) c.args.head (suc l.k) (drop (l.k + 1) xs)) c.join-facts-all.ensures
-          ∙ step_more s c.args.head l.k (get_or xs l.k 0) (drop (l.k + 1) xs) l.all e r (sym c.takes-part.ensures ∙ c.if-not-takes-part.false)
+      ap (λ k. surveyed (trees s) c.args.head k (drop (l.k + 1) xs) c.join_facts-all.result) (add-one l.k)
+          ∙ ap (surveyed (trees s) c.args.head (suc l.k) (drop (l.k + 1) xs)) c.join_facts-all.ensures
+          ∙ step_more s c.args.head l.k (get_or xs l.k 0) (drop (l.k + 1) xs) l.all e r (sym c.takes_part.ensures ∙ c.if-not-takes-part.false)
           ∙ ap (λ ns. surveyed (trees s) c.args.head l.k ns l.all) (sym (drop_more xs l.k 0 c.loop-k-test.true))
           ∙ l.invariant.0,
-      omega (arith, low, l.invariant.1, ap (λ (f : Facts). f.height) c.join-facts-all.ensures),
+      omega (arith, low, l.invariant.1, ap (λ (f : Facts). f.height) c.join_facts-all.ensures),
     )
 
 -- after the last part
@@ -66,7 +66,7 @@ returns c =
     let l = c.loop-k in
     let xs = c.args.parts.now in
     pass_accepted s c.args.head xs _
-    (ap Ok c.top-facts.ensures
-    ∙ end_ok (trees s) c.args.head l.k l.all (omega (arith, c.least-parts.ensures, c.if-parts-least-parts.false))
+    (ap Ok c.top_facts.ensures
+    ∙ end_ok (trees s) c.args.head l.k l.all (omega (arith, c.least_parts.ensures, c.if-parts-least_parts.false))
     ∙ ap (λ ns. surveyed (trees s) c.args.head l.k ns l.all) (sym (drop_all l.k xs c.loop-k-test.false))
     ∙ l.invariant.0)
