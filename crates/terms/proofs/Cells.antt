@@ -1,15 +1,15 @@
 -- The trees of cells: what each cell's tree is, and that the tree of a cell is read back as that cell.
-use Rattle.std.proofs.Common.{◌≡◌, ℕ, zero, suc, ◌+◌, ◌<◌, ◌≤◌, Bool, true, false, List, [], ◌∷◌, ◌++◌, map, length, get_or, take, drop, sym, refl, ap, ◌∙◌, subst, ⊎_elim, append_assoc, arith}
-use Rattle.std.proofs.lemmas.Bool.{both_ways, cases_lt}
+use Rattle.std.proofs.Common.{◌≡◌, ℕ, zero, suc, ◌+◌, ◌<◌, ◌≤◌, true, false, List, [], ◌∷◌, ◌++◌, map, length, get_or, take, drop, sym, refl, ap, ◌∙◌, subst, arith}
+use Rattle.std.proofs.lemmas.Bool.{both_ways}
 use Rattle.std.proofs.lemmas.List.{length-map, length-append, length_push, length-take-le, get_or_append_left, get_or_push, get_or-take, get_or-map, take_at, take-append-le, take-append-drop, take_all, append-nil, drop-append-le, length-drop, same_lists, map_push}
 use Rattle.theory.specs.declared.words.Node.{Node}
 use Rattle.theory.specs.declared.words.Node.TheVariants.{Leaf as ALeaf, Over}
-use Rattle.theory.specs.Trees.{Tree, leaf, nil, parts, assembled, seen}
-use Rattle.theory.specs.Store.{checked, handle, OneHandle}
+use Rattle.theory.specs.Trees.{Tree, nil, parts, seen}
+use Rattle.theory.specs.Store.{handle, OneHandle}
 use Rattle.terms.specs.declared.memory.entry.Entry.{Entry}
-use Rattle.terms.specs.Memory.{Cell, count, cell, cell_of, vacant, formed, tree_of, grown, held, Within, accepted, fits, handles_at, Kept, Fitted}
-use Rattle.terms.proofs.Places.{Below, trees-at, trees_at_more, handles-back, handle_le, handle-hit}
-use Rattle.terms.proofs.Fits.{accepted_below, accepted_more, accepted-trees, parts-assembled, seen-assembled}
+use Rattle.terms.specs.Memory.{Cell, count, cell, cell_of, vacant, formed, tree_of, grown, held, Within, fits, Kept, Fitted}
+use Rattle.terms.proofs.Places.{Below, trees-at, trees_at_more, handles-back}
+use Rattle.terms.proofs.Fits.{accepted_below, accepted_more, parts-assembled, seen-assembled}
 
 -- a cell whose handles fit its form, as many as the form says
 pub record Proper (m : List Tree) (c : Cell) : Type 0 where

@@ -1,12 +1,12 @@
 -- What stands true of a store's memory stands after its last entry is taken away.
-use Rattle.std.proofs.Common.{◌≡◌, ℕ, zero, suc, ◌+◌, ◌%◌, ◌<◌, ◌≤◌, true, List, [], ◌∷◌, ◌++◌, map, length, get_or, take, drop, set, sym, refl, ap, ◌∙◌, subst, arith}
+use Rattle.std.proofs.Common.{◌≡◌, ℕ, zero, suc, ◌+◌, ◌<◌, ◌≤◌, true, List, [], ◌∷◌, ◌++◌, length, get_or, take, drop, set, sym, ap, ◌∙◌, subst, arith}
 use Rattle.std.proofs.lemmas.List.{length-append, length-take-le, length-set, length-map, get_or-take, take-take, take-map, take-append-drop, take_more}
 use Rattle.theory.specs.Trees.{Tree, nil, parts, height, flags, outer}
 use Rattle.theory.specs.Store.{handle, OneHandle, used}
 use Rattle.terms.specs.declared.memory.entry.Entry.{Entry}
 use Rattle.terms.specs.Hash.{hashed}
-use Rattle.terms.specs.Memory.{Cell, count, cell_of, vacant, tree_of, grown, held, Within, fits, handles_at, Kept, Placed, Fitted, Known, Deep, Low}
-use Rattle.terms.specs.Chains.{bucket, Heads, Nexts}
+use Rattle.terms.specs.Memory.{Cell, count, cell_of, vacant, tree_of, grown, held, Within, fits, handles_at}
+use Rattle.terms.specs.Chains.{bucket, Nexts}
 use Rattle.terms.proofs.Places.{handle-front}
 use Rattle.terms.proofs.Cells.{cells, cell_more, cells_more, grown-front, length-held, own_proper, own_tree}
 use Rattle.terms.proofs.Links.{heads_cut, nexts_cut}

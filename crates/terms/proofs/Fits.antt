@@ -1,27 +1,24 @@
 -- Parts that fit a head: the tree over them is read back as that head over those parts.
-use Rattle.std.proofs.Common.{◌≡◌, ℕ, zero, suc, ◌+◌, ◌<◌, ◌≤◌, Bool, true, false, cond, eqb, ltb, ◌⊎◌, List, [], ◌∷◌, ◌++◌, map, length, get_or, take, drop, Ok, Err, Result, sym, refl, ap, ◌∙◌, inl, inr, ⊎_elim, arith}
+use Rattle.std.proofs.Common.{◌≡◌, ℕ, zero, suc, ◌+◌, ◌<◌, ◌≤◌, Bool, true, false, cond, eqb, ltb, List, [], ◌∷◌, ◌++◌, length, get_or, Ok, Err, Result, sym, refl, ap, ◌∙◌, ⊎_elim, arith}
 use mathlib.Core.Option.{Option, none, some}
 use Rattle.std.proofs.lemmas.Bool.{cases_Bool, both_ways, cond-true, cond-false, eqb-true, le-ltb, ltb-false}
-use Rattle.std.proofs.lemmas.List.{length-map, length-append, get_or_append_left}
+use Rattle.std.proofs.lemmas.List.{length-append, get_or_append_left}
 use Rattle.theory.specs.declared.words.ListSort.TheVariants.{Arguments, Environment, OpaquePairs, Goals, Constraints, Kinds}
 use Rattle.theory.specs.declared.words.ArgSort.TheVariants.{Ty as ty, Region as region, Const as const}
-use Rattle.theory.specs.declared.words.VarSort.TheVariants.{Ty as v_ty, Int as v_int, Float as v_float, Const as v_const}
-use Rattle.theory.specs.declared.words.Sort.{Sort}
 use Rattle.theory.specs.declared.words.Sort.TheVariants.{Argument, List as list_of}
 use Rattle.theory.specs.declared.words.Leaf.{Leaf}
 use Rattle.theory.specs.declared.words.Leaf.TheVariants.{Variable, RegionVariable, Parameter, LateParameter, Placeholder, Bound, Canonical, Error, Static, Erased, Kind as AKind}
 use Rattle.theory.specs.declared.words.Head.{Head}
 use Rattle.theory.specs.declared.words.Head.TheVariants.{Constructor, Alias, Function, Unevaluated, Value, Predicate, OpaquePair, Goal, Outlives, Equal, List as AList}
-use Rattle.theory.specs.declared.words.Node.{Node}
-use Rattle.theory.specs.declared.words.Node.TheVariants.{Leaf as ALeaf, Over}
+use Rattle.theory.specs.declared.words.Node.TheVariants.{Over}
 use Rattle.theory.specs.declared.words.Want.TheVariants.{Of}
 use Rattle.theory.specs.declared.words.StoreFault.{StoreFault}
-use Rattle.theory.specs.declared.words.StoreFault.TheVariants.{NoSuch, BadPart}
+use Rattle.theory.specs.declared.words.StoreFault.TheVariants.{BadPart}
 use Rattle.theory.specs.Outcomes.{at, ◌>>=◌}
 use Rattle.theory.specs.Trees.{Tree, leaf, node, nil, cons, items, row, applies, parts, under, applied, assembled, seen, node_sort, leaf_sort, head_sort, sort_code, wants, only, least, takes}
-use Rattle.theory.specs.Store.{checked, checked_at, OneHandle}
-use Rattle.terms.specs.Memory.{Cell, count, cell, formed, tree_of, accepted, fits}
-use Rattle.terms.proofs.Places.{at_some, at_in, Below, trees-at, trees_at_more, handles-back}
+use Rattle.theory.specs.Store.{checked, checked_at}
+use Rattle.terms.specs.Memory.{accepted}
+use Rattle.terms.proofs.Places.{at_some, at_in, Below, trees-at}
 
 -- What accepted parts are
 

@@ -1,20 +1,18 @@
 -- What putting a tree answers, from what a search for its cell found.
-use Rattle.std.proofs.Common.{◌≡◌, ℕ, ◌+◌, ◌-◌, ◌<◌, ◌≤◌, Bool, true, false, cond, ◌&&◌, ltb, leb, ◌⊎◌, List, [], ◌∷◌, ◌++◌, length, get_or, Ok, Err, sym, refl, ap, ◌∙◌, inl, inr, ⊎_elim, arith}
+use Rattle.std.proofs.Common.{◌≡◌, ℕ, ◌+◌, ◌-◌, ◌<◌, ◌≤◌, true, false, ltb, leb, ◌⊎◌, length, get_or, Ok, Err, sym, refl, ap, ◌∙◌, ⊎_elim, arith}
 use Rattle.std.proofs.lemmas.Bool.{lt-ltb, le-ltb, le-leb, lt-leb, and_from, and_left, and_right}
-use Rattle.theory.specs.declared.words.Facts.{Facts}
-use Rattle.theory.specs.declared.words.Node.{Node}
 use Rattle.theory.specs.declared.words.StoreFault.TheVariants.{Full, TooHigh, TooLong}
 use Rattle.theory.specs.Outcomes.{answered}
-use Rattle.theory.specs.Trees.{Tree, nil, parts, height, facts}
-use Rattle.theory.specs.Store.{Contents, handle, holds, used, has_room, with_tree, put}
+use Rattle.theory.specs.Trees.{Tree, nil, parts, height}
+use Rattle.theory.specs.Store.{handle, holds, used, has_room, with_tree, put}
 use Rattle.terms.specs.declared.store.Store.{Store}
-use Rattle.terms.specs.Memory.{Cell, count, cell, tree_of, held, fits}
+use Rattle.terms.specs.Memory.{Cell, tree_of}
 use Rattle.terms.specs.Chains.{Is_at}
 use Rattle.terms.specs.Means.{trees, means}
 use Rattle.terms.proofs.Cells.{Proper, length-held, own_tree}
-use Rattle.terms.proofs.Stands.{Sound, not_held, parts_many}
+use Rattle.terms.proofs.Stands.{not_held, parts_many}
 use Rattle.terms.proofs.Packed.{sound_of}
-use Rattle.terms.proofs.Pushed.{pool_of, entries_of, length-entries, length_pool}
+use Rattle.terms.proofs.Pushed.{pool_of, entries_of, length-entries}
 
 module _ (s : Store) (c : Cell) (proper : Proper (trees s) c) where
   abbrev t : Tree

@@ -1,5 +1,5 @@
 -- The facts in the type of a store, all at once: taken out of a store, and put into one.
-use Rattle.std.proofs.Common.{◌≡◌, ℕ, ◌*◌, ◌<◌, ◌≤◌, List, length, take, sym, refl, ap, ◌∙◌, subst, arith}
+use Rattle.std.proofs.Common.{◌≡◌, ℕ, ◌*◌, ◌≤◌, List, length, take, sym, ◌∙◌, subst, arith}
 use Rattle.std.proofs.lemmas.List.{length-take-le}
 use Rattle.theory.specs.Store.{OneHandle, used as parts_held}
 use Rattle.terms.specs.declared.memory.entry.Entry.{Entry}
@@ -21,31 +21,52 @@ pub record Room (entries buckets items len used limit room : ℕ) : Type 0 where
 
 abbrev pub FactsOf : List Entry → List ℕ → List ℕ → ℕ → ℕ → ℕ → ℕ → Type 0
 FactsOf es hd xs len used limit room =
-    (len ≤ limit)
-    × ((limit ≤ 65535)
-    × ((limit ≤ length es)
-    × ((limit ≤ 65535 * length hd)
-    × ((used ≤ room)
-    × ((room ≤ 16776960)
-    × ((room ≤ length xs)
-    × (Heads (take len es) hd
-    × (Nexts (take len es) (length hd)
-    × (Kept (take used xs) (take len es)
-    × (Placed (take used xs) (take len es)
-    × (Fitted (take used xs) (take len es)
-    × (Known (take used xs) (take len es)
-    × (Deep (take used xs) (take len es)
-    × (Low (take len es)
-    × (OneHandle (held (take used xs) (take len es))
-    × ((len ≡ length (held (take used xs) (take len es)))
-    × ((used ≡ parts_held (held (take used xs) (take len es))) × Unit {0})))))))))))))))))
+    record {
+      within : len ≤ limit;
+      few : limit ≤ 65535;
+      lent : limit ≤ length es;
+      indexed : limit ≤ 65535 * length hd;
+      inside : used ≤ room;
+      few_items : room ≤ 16776960;
+      lent_items : room ≤ length xs;
+      firsts : Heads (take len es) hd;
+      others : Nexts (take len es) (length hd);
+      kept : Kept (take used xs) (take len es);
+      placed : Placed (take used xs) (take len es);
+      fitted : Fitted (take used xs) (take len es);
+      known : Known (take used xs) (take len es);
+      deep : Deep (take used xs) (take len es);
+      low : Low (take len es);
+      sole : OneHandle (held (take used xs) (take len es));
+      long : len ≡ length (held (take used xs) (take len es));
+      counted : used ≡ parts_held (held (take used xs) (take len es));
+    }
 
 pub packed : (es : List Entry) (hd xs : List ℕ) (len used limit room : ℕ) → Room (length es) (length hd) (length xs) len used limit room → Sound (take used xs) (take len es) hd → FactsOf es hd xs len used limit room
 packed es hd xs len used limit room r s =
     let l : used ≤ length xs = omega (arith, r.inside, r.lent_items) in
     let k : len ≤ length es = omega (arith, r.within, r.lent) in
     let long : len ≡ length (held (take used xs) (take len es)) = sym (length-held (take used xs) (take len es) ∙ length-take-le len es k) in
-    (r.within, (r.few, (r.lent, (r.indexed, (r.inside, (r.few_items, (r.lent_items, (s.firsts, (s.others, (s.kept, (s.placed, (s.fitted, (s.known, (s.deep, (s.low, (s.sole, (long, (sym (length-take-le used xs l) ∙ s.counted, tt))))))))))))))))))
+    record {
+      within = r.within;
+      few = r.few;
+      lent = r.lent;
+      indexed = r.indexed;
+      inside = r.inside;
+      few_items = r.few_items;
+      lent_items = r.lent_items;
+      firsts = s.firsts;
+      others = s.others;
+      kept = s.kept;
+      placed = s.placed;
+      fitted = s.fitted;
+      known = s.known;
+      deep = s.deep;
+      low = s.low;
+      sole = s.sole;
+      long = long;
+      counted = sym (length-take-le used xs l) ∙ s.counted;
+    }
 
 pub room_of : (s : Store) → Room (length s.entries.now) (length s.buckets.now) (length s.items.now) s.len s.used s.limit s.room
 room_of s =

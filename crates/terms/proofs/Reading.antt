@@ -7,7 +7,7 @@ use Rattle.theory.specs.declared.words.Node.{Node}
 use Rattle.theory.specs.declared.words.StoreFault.{StoreFault}
 use Rattle.theory.specs.declared.words.StoreFault.TheVariants.{NoSuch, BadPart}
 use Rattle.theory.specs.Outcomes.{at, given, ◌>>=◌, test}
-use Rattle.theory.specs.Trees.{Tree, nil, tree?, parts, seen, node_sort, facts, height, flags, outer}
+use Rattle.theory.specs.Trees.{Tree, nil, tree?, parts, seen, node_sort, facts, height, flags}
 use Rattle.theory.specs.Store.{found, handle, get, part, sort_at, facts_at, OneHandle}
 use Rattle.terms.specs.declared.memory.entry.Entry.{Entry}
 use Rattle.terms.specs.declared.store.Store.{Store}

@@ -1,16 +1,15 @@
 -- All that stands true of a store's memory at once; that it rests on the part in use alone; and that it stands after a push.
-use Rattle.std.proofs.Common.{◌≡◌, ℕ, zero, suc, ◌+◌, ◌*◌, ◌%◌, ◌<◌, ◌≤◌, Bool, true, false, List, [], ◌∷◌, ◌++◌, map, length, get_or, take, drop, set, sym, refl, ap, ◌∙◌, subst, ⊎_elim, arith}
+use Rattle.std.proofs.Common.{◌≡◌, ℕ, ◌+◌, ◌%◌, ◌<◌, ◌≤◌, true, List, [], ◌∷◌, ◌++◌, length, get_or, take, set, sym, refl, ap, ◌∙◌, subst, ⊎_elim, arith}
 use Rattle.std.proofs.lemmas.Bool.{cases_lt}
-use Rattle.std.proofs.lemmas.List.{length-append, length_push, length-take-le, length-map, get_or_append_left, get_or_push, take-append-le, take_at, take_all, drop_at, map_push}
-use Rattle.theory.specs.declared.words.Node.{Node}
+use Rattle.std.proofs.lemmas.List.{length-append, length_push, length-map, get_or_append_left, get_or_push, take-append-le, take_all, drop_at, map_push}
 use Rattle.theory.specs.declared.words.Facts.{Facts}
-use Rattle.theory.specs.Trees.{Tree, leaf, nil, parts, height, flags, outer, facts}
+use Rattle.theory.specs.Trees.{Tree, nil, parts, height, flags, outer, facts}
 use Rattle.theory.specs.Store.{handle, OneHandle, used}
 use Rattle.terms.specs.declared.memory.entry.Entry.{Entry}
 use Rattle.terms.specs.Hash.{hashed}
 use Rattle.terms.specs.Memory.{Cell, count, cell, cell_of, vacant, tree_of, grown, held, Within, fits, handles_at, Kept, Placed, Fitted, Known, Deep, Low}
 use Rattle.terms.specs.Chains.{newest, on_bucket, Heads, Nexts, Is_at}
-use Rattle.terms.proofs.Places.{trees-at, handle_le, handle-hit, handle_more, handle_new}
+use Rattle.terms.proofs.Places.{handle-hit, handle_more, handle_new}
 use Rattle.terms.proofs.Cells.{Proper, cells, cell_more, cells_more, grown-push, length-held, own_proper, own_tree, same_cell, parts_of}
 use Rattle.terms.proofs.Links.{last_or, heads_push, nexts_push}
 

@@ -1,5 +1,5 @@
 -- What one pass over the parts of a new term finds is what its tree says.
-use Rattle.std.proofs.Common.{◌≡◌, ℕ, zero, suc, ◌+◌, ◌-◌, ◌*◌, ◌/◌, ◌%◌, ◌^◌, ◌<◌, ◌≤◌, max, Bool, true, false, cond, ltb, ◌⊎◌, List, [], ◌∷◌, length, get_or, Ok, Err, Result, sym, refl, ap, ◌∙◌, inl, inr, ⊎_elim, arith}
+use Rattle.std.proofs.Common.{◌≡◌, ℕ, zero, suc, ◌+◌, ◌*◌, ◌/◌, ◌%◌, ◌<◌, ◌≤◌, max, Bool, true, false, cond, ltb, List, [], ◌∷◌, length, get_or, Ok, Err, Result, sym, refl, ap, ◌∙◌, ⊎_elim, arith}
 use mathlib.Core.Option.{Option, none, some}
 use native.Mathlib.Nat.{max-zero, zero-max}
 use lib.Bits.{bit_or, or_step, or_zero_r, or_shr}
@@ -11,7 +11,7 @@ use Rattle.theory.specs.declared.words.Facts.{Facts}
 use Rattle.theory.specs.declared.words.StoreFault.{StoreFault}
 use Rattle.theory.specs.declared.words.StoreFault.TheVariants.{NoSuch, BadPart}
 use Rattle.theory.specs.Outcomes.{at, ◌>>=◌, answered}
-use Rattle.theory.specs.Trees.{Tree, node, nil, cons, row, applies, assembled, seen, takes, least, facts}
+use Rattle.theory.specs.Trees.{Tree, node, nil, row, applies, assembled, seen, takes, least, facts}
 use Rattle.theory.specs.Store.{checked, checked_at, put, add_node}
 use Rattle.terms.specs.Memory.{accepted, vacant}
 use Rattle.terms.specs.Survey.{no_facts, beside, topped, surveyed, surveyed_at, Passed}

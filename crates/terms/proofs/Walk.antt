@@ -1,9 +1,9 @@
 -- A walk along a bucket's chain finds the entry of a form over parts.
-use Rattle.std.proofs.Common.{◌≡◌, ℕ, suc, ◌-◌, ◌%◌, ◌<◌, ◌≤◌, Bool, true, false, eqb, List, length, get_or, sym, refl, ap, ◌∙◌, subst, ⊎_elim, arith}
+use Rattle.std.proofs.Common.{◌≡◌, ℕ, ◌-◌, ◌%◌, ◌<◌, ◌≤◌, true, List, length, get_or, sym, ap, ◌∙◌, subst, ⊎_elim, arith}
 use Rattle.std.proofs.lemmas.Bool.{eqb-true, eq-eqb, cases_eq}
 use Rattle.terms.specs.declared.memory.entry.Entry.{Entry}
 use Rattle.terms.specs.Hash.{hashed}
-use Rattle.terms.specs.Memory.{Cell, cell_of, vacant, Kept}
+use Rattle.terms.specs.Memory.{Cell, vacant, Kept}
 use Rattle.terms.specs.Chains.{newest, bucket, on_bucket, Heads, Nexts, Is_at}
 use Rattle.terms.proofs.Newest.{newest_le, newest-hit, newest_covers}
 

@@ -1,6 +1,6 @@
 -- The hash index: each bucket's chain as a function of the entries. A bucket names its newest entry, and an entry the
 -- newest one before it in its bucket; places count from 1, and 0 ends a chain.
-use Rattle.std.specs.Prelude.{◌≡◌, ℕ, zero, suc, ◌%◌, ◌<◌, Bool, true, false, cond, List, length, get_or, Some, None, Option, ◌==◌, slice_index, slice_index_or}
+use Rattle.std.specs.Prelude.{◌≡◌, ℕ, zero, suc, ◌%◌, ◌<◌, Bool, cond, List, length, get_or, Some, None, Option, ◌==◌, slice_index, slice_index_or}
 use Rattle.terms.specs.declared.memory.entry.Entry.{Entry}
 use Rattle.terms.specs.Memory.{Cell, cell_of, vacant}
 

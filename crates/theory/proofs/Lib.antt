@@ -1,3 +1,4 @@
+pub mod Equality
 pub mod Growth
 pub mod Numbering
 pub mod Partnered

@@ -1,8 +1,8 @@
-use Rattle.std.proofs.Common.{◌≡◌, ◌-◌, ◌%◌, ◌<◌, ◌≤◌, length, get_or, sym, refl, ap, ◌∙◌, subst, arith}
+use Rattle.std.proofs.Common.{◌-◌, length, sym, refl, ap, ◌∙◌}
 use Rattle.std.proofs.lemmas.Nat.{mod_below}
 use Rattle.std.proofs.lemmas.Bool.Decides.{not_from_Decides}
 use Rattle.terms.specs.Hash.{hashed}
-use Rattle.terms.specs.Memory.{Cell, cell, vacant}
+use Rattle.terms.specs.Memory.{Cell}
 use Rattle.terms.proofs.Walk.{left_first, left_inside, left-next, left_less, left_none}
 use Rattle.terms.proofs.memory.seek.Goals as goal
 use Rattle.terms.proofs.memory.seek.Goals.{else-e-hash-via-then-e-hash+else-is_entry, else-e-hash-via-else-e-hash}
@@ -10,11 +10,11 @@ use Rattle.terms.proofs.memory.seek.Goals.{else-e-hash-via-then-e-hash+else-is_e
 pub loop-at-init : goal.loop-at-init
 loop-at-init c = left_first _ _ _ _ _ c.requires.hash c.requires.kept c.args.buckets.now refl (mod_below c.args.hash (length c.args.buckets.now) c.requires.some) c.requires.firsts
 
-pub is-entry-requires : goal.is-entry-requires
-is-entry-requires c = (c.requires.kept (c.loop-at.at - 1) (left_inside _ _ _ _ _ c.requires.hash c.requires.kept c.loop-at.at c.loop-at-test.true c.loop-at.invariant)).0
+pub is_entry-requires : goal.is_entry-requires
+is_entry-requires c = (c.requires.kept (c.loop-at.at - 1) (left_inside _ _ _ _ _ c.requires.hash c.requires.kept c.loop-at.at c.loop-at-test.true c.loop-at.invariant)).0
 
-pub returns-then-is-entry : goal.returns-then-is-entry
-returns-then-is-entry c = (left_inside _ _ _ _ _ c.requires.hash c.requires.kept c.loop-at.at c.loop-at-test.true c.loop-at.invariant, c.is-entry.ensures.0 c.if-is-entry.true)
+pub returns-then-is_entry : goal.returns-then-is_entry
+returns-then-is_entry c = (left_inside _ _ _ _ _ c.requires.hash c.requires.kept c.loop-at.at c.loop-at-test.true c.loop-at.invariant, c.is_entry.ensures.0 c.if-is_entry.true)
 
 pub loop-at-smaller : goal.loop-at-smaller
 loop-at-smaller c = left_less _ _ _ _ _ c.requires.hash c.requires.kept c.loop-at.at c.loop-at-test.true c.loop-at.invariant c.requires.others

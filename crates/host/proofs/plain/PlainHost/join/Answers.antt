@@ -3,8 +3,8 @@ use Rattle.std.proofs.Common.{◌≡◌, ◌≤◌, vec_items, vec_len, sym, ◌
 use Rattle.host.proofs.Roots.{low_relabel}
 use Rattle.host.proofs.plain.PlainHost.join.Goals as goal
 
-pub invariant-of-self : goal.invariant-of-self
-invariant-of-self c =
+pub invariant_of-self : goal.invariant_of-self
+invariant_of-self c =
     let old = c.args.self.now.roots in
     let new = c.relabel.new.roots in
     let le : c.min.result ≤ c.max.result = omega (arith, c.min.ensures, c.max.ensures) in (

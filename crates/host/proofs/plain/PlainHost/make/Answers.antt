@@ -3,18 +3,18 @@ use Rattle.std.proofs.Common.{◌≡◌, vec_items, ◌∙◌, arith, rules}
 use Rattle.host.proofs.Roots.{low-push}
 use Rattle.host.proofs.plain.PlainHost.make.Goals as goal
 
-pub invariant-of-self : goal.invariant-of-self
-invariant-of-self c =
+pub invariant_of-self : goal.invariant_of-self
+invariant_of-self c =
     let roots = c.args.self.now.roots in (
       search rules,
       (
         omega arith,
         (
-          omega (arith, c.next-root.ensures.len, c.args.self.now.counted),
+          omega (arith, c.next_root.ensures.len, c.args.self.now.counted),
           (
-            omega (arith, c.next-root.ensures.capacity, c.args.self.now.reserved),
+            omega (arith, c.next_root.ensures.capacity, c.args.self.now.reserved),
             (
-              low-push (vec_items roots) (vec_items c.next-root.new.roots) c.next-root.result c.next-root.ensures.items (c.next-root.ensures.value ∙ roots.ok.0) c.args.self.now.lowest,
+              low-push (vec_items roots) (vec_items c.next_root.new.roots) c.next_root.result c.next_root.ensures.items (c.next_root.ensures.value ∙ roots.ok.0) c.args.self.now.lowest,
               tt,
             ),
           ),

@@ -11,9 +11,9 @@ returns c =
       places = λ k h.
           let v = c.args.roots.now in
           let ws = c.loop-root.root-items in
-          let n : length ws ≡ v.len = omega (arith, c.loop-root.auto.root-items, c.deref-mut-root-items.ensures.len) in
-          let lt : k < c.loop-root.root-index = omega (arith, c.deref-mut-root-items.ensures.len) in
+          let n : length ws ≡ v.len = omega (arith, c.loop-root.auto.root-items, c.deref_mut-root-items.ensures.len) in
+          let lt : k < c.loop-root.root-index = omega (arith, c.deref_mut-root-items.ensures.len) in
           let e = with_items_is v ws n in
-          let d = c.deref-mut-root-items.ensures.value in
+          let d = c.deref_mut-root-items.ensures.value in
           ap (λ l. get_or l k 0) e ∙ (simp d at (c.loop-root.invariant.0 k lt));
     }

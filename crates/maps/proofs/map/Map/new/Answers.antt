@@ -8,9 +8,9 @@ loop-b-preserved g c =
     (λ k h. let ne : k ≢ c.loop-b.b-index = omega arith in rw get_or-set_other (c.loop-b.invariant k h))
     (let lt : c.loop-b.b-index < length c.loop-b.buckets = omega arith in rw get_or-set_same)
 
-pub invariant-of-result : goal.invariant-of-result
-invariant-of-result g c =
-    let is = c.limit-of-limit.ensures in
+pub invariant_of-result : goal.invariant_of-result
+invariant_of-result g c =
+    let is = c.limit_of-limit.ensures in
     let slots = length c.args.slots.now in
     let buckets = length c.loop-b.buckets in (
       omega arith,

@@ -8,8 +8,8 @@ use Rattle.maps.proofs.Writing.{heads_behind, nexts_behind, heads_more, nexts_mo
 use Rattle.maps.proofs.map.Map.push.Goals as goal
 
 -- the slot is written, and not in use yet
-pub invariant-of-self : goal.invariant-of-self
-invariant-of-self g c =
+pub invariant_of-self : goal.invariant_of-self
+invariant_of-self g c =
     let m = c.args.self.now in
     let ss = m.slots.now in
     let room : m.len < length ss = omega (arith, c.requires, m.lent) in
@@ -18,8 +18,8 @@ invariant-of-self g c =
       (m.few, (omega (arith, m.lent, length-set ss m.len s), (m.indexed, (heads_behind ss m.len room s m.buckets.now m.firsts, (nexts_behind ss m.len room s (length m.buckets.now) m.others, tt))))),
     )
 
-pub invariant-of-self-2 : goal.invariant-of-self-2
-invariant-of-self-2 g c =
+pub invariant_of-self-2 : goal.invariant_of-self-2
+invariant_of-self-2 g c =
     let m = c.args.self.now in
     let ss = m.slots.now in
     let hd = m.buckets.now in

@@ -3,8 +3,8 @@ use Rattle.std.proofs.lemmas.List.{length-set}
 use Rattle.maps.proofs.Writing.{with_value, heads_revalued, nexts_revalued, pairs-revalued}
 use Rattle.maps.proofs.map.Map.replace.Goals as goal
 
-pub invariant-of-self : goal.invariant-of-self
-invariant-of-self g c =
+pub invariant_of-self : goal.invariant_of-self
+invariant_of-self g c =
     let m = c.args.self.now in
     let ss = m.slots.now in
     let s = c.slot-old.result in

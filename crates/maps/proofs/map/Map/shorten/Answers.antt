@@ -6,8 +6,8 @@ use Rattle.maps.specs.Pairs.{hash_at, next_at}
 use Rattle.maps.proofs.Writing.{heads_less, nexts_less}
 use Rattle.maps.proofs.map.Map.shorten.Goals as goal
 
-pub invariant-of-self : goal.invariant-of-self
-invariant-of-self g c =
+pub invariant_of-self : goal.invariant_of-self
+invariant_of-self g c =
     let m = c.args.self.now in
     let ss = m.slots.now in
     let hd = m.buckets.now in

@@ -5,7 +5,7 @@ use Rattle.maps.specs.Pairs.{hash_at}
 use Rattle.maps.proofs.Walk.{left_first, left_none}
 use Rattle.maps.proofs.Seeking.{Is, one_hash, step_here, step_less, step-next, placed_nowhere}
 use Rattle.maps.proofs.map.calls.seek.Goals as goal
-use Rattle.maps.proofs.map.calls.seek.Goals.{else-slot-hash-via-then-slot-hash+else-is-same, else-slot-hash-via-else-slot-hash}
+use Rattle.maps.proofs.map.calls.seek.Goals.{else-slot-hash-via-then-slot-hash+else-is_same, else-slot-hash-via-else-slot-hash}
 
 pub loop-at-init : goal.loop-at-init
 loop-at-init g c =
@@ -14,11 +14,11 @@ loop-at-init g c =
     (one_hash g.K.Key.alike g.K.Key.digest c.args.slots.now c.args.len c.requires.lent c.args.key c.args.hash c.requires.hash)
     c.args.buckets.now refl (mod_below c.args.hash (length c.args.buckets.now) c.requires.some) c.requires.firsts
 
-pub returns-then-is-same : goal.returns-then-is-same
-returns-then-is-same g c =
+pub returns-then-is_same : goal.returns-then-is_same
+returns-then-is_same g c =
     step_here g.K.Key.alike g.K.Key.digest c.args.slots.now c.args.len c.requires.lent c.args.key
     (length c.args.buckets.now) c.args.hash c.loop-at.at c.requires.hash c.loop-at.invariant c.loop-at-test.true
-    c.index-slots-at.result c.index-slots-at.is c.if-slot-hash.true (sym c.if-is-same.ensures)
+    c.index-slots-at.result c.index-slots-at.is c.if-slot-hash.true (sym c.if-is_same.ensures)
 
 pub loop-at-smaller : goal.loop-at-smaller
 loop-at-smaller g c =
@@ -34,7 +34,7 @@ loop-at-preserved g c =
     c.index-slots-at.result c.index-slots-at.is c.requires.others
     (λ h a.
     elim c.else-slot-hash.branch [
-      | else-slot-hash-via-then-slot-hash+else-is-same w ↦ both_ways w.is-same.result w.if-is-same.false (w.is-same.ensures ∙ a)
+      | else-slot-hash-via-then-slot-hash+else-is_same w ↦ both_ways w.is_same.result w.if-is_same.false (w.is_same.ensures ∙ a)
       | else-slot-hash-via-else-slot-hash w ↦ w.if-slot-hash.false h
     ])
 

@@ -9,11 +9,11 @@ pub returns : goal.returns
 returns c = λ t.
     let v = c.args.table.now in
     let ws = c.loop-cached.cached-items in
-    let n : length ws ≡ v.len = omega (arith, c.loop-cached.auto.cached-items, c.deref-mut-cached-items.ensures.len) in
+    let n : length ws ≡ v.len = omega (arith, c.loop-cached.auto.cached-items, c.deref_mut-cached-items.ensures.len) in
     let e = with_items_is v ws n in
     ap (λ l. get_or l t vacant) e
     ∙ elim (cases_lt t (length ws)) [
-      | inl lt ↦ c.loop-cached.invariant t (omega (arith, c.deref-mut-cached-items.ensures.len))
+      | inl lt ↦ c.loop-cached.invariant t (omega (arith, c.deref_mut-cached-items.ensures.len))
       | inr ge ↦ get_or_past ws t vacant ge
     ]
 

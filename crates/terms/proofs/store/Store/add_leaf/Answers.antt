@@ -1,4 +1,3 @@
-use Rattle.std.proofs.Common.{◌≡◌}
 use Rattle.theory.specs.Store.{add_leaf}
 use Rattle.terms.proofs.store.Store.add_leaf.Goals as goal
 

@@ -1,4 +1,4 @@
-use Rattle.std.proofs.Common.{◌≡◌, ◌<◌, ◌≤◌, length, get_or, sym, refl, ◌∙◌, arith}
+use Rattle.std.proofs.Common.{◌≡◌, ◌<◌, ◌≤◌, length, get_or, sym, refl, arith}
 use Rattle.std.proofs.lemmas.List.{get_or-take}
 use Rattle.terms.specs.Memory.{vacant}
 use Rattle.terms.specs.Means.{trees}

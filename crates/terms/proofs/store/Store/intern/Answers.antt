@@ -1,6 +1,5 @@
-use Rattle.std.proofs.Common.{◌≡◌, ◌<◌, ◌≤◌, length, Ok, Err, sym, refl, ap, ◌∙◌, inl, inr, arith}
+use Rattle.std.proofs.Common.{◌≡◌, length, Ok, ap, ◌∙◌, inl, inr, arith}
 use Rattle.theory.specs.declared.words.Facts.{Facts}
-use Rattle.theory.specs.Store.{with_tree}
 use Rattle.theory.specs.Trees.{height}
 use Rattle.terms.specs.Memory.{cell, tree_of}
 use Rattle.terms.specs.Means.{trees, means}

@@ -1,6 +1,5 @@
-use Rattle.std.proofs.Common.{◌≡◌, ◌+◌, ◌%◌, ◌<◌, ◌≤◌, [], ◌∷◌, ◌++◌, length, get_or, take, set, sym, refl, ap, ◌∙◌, arith}
+use Rattle.std.proofs.Common.{◌≡◌, ◌+◌, ◌%◌, ◌<◌, [], ◌∷◌, ◌++◌, length, get_or, take, set, sym, refl, ap, ◌∙◌, arith}
 use Rattle.std.proofs.lemmas.List.{take_more_set, take-set-le, length-set}
-use Rattle.theory.specs.Store.{Contents}
 use Rattle.terms.specs.declared.memory.entry.Entry.{Entry}
 use Rattle.terms.specs.Memory.{held, cell, tree_of}
 use Rattle.terms.specs.Means.{trees}
@@ -10,10 +9,10 @@ use Rattle.terms.proofs.Pushed.{pool_of, entries_of, length-entries, trees_pushe
 use Rattle.terms.proofs.store.Store.push.Goals as goal
 
 -- the entry that is written lies past those in use
-pub invariant-of-self : goal.invariant-of-self
-invariant-of-self c =
-    let s = c.write-parts.new.self in
-    let w = c.write-parts.ensures in
+pub invariant_of-self : goal.invariant_of-self
+invariant_of-self c =
+    let s = c.write_parts.new.self in
+    let w = c.write_parts.ensures in
     let s0 = c.args.self.now in
     let e : Entry = record { node = c.args.node; first = s0.used; hash = c.args.hash; next = get_or s0.buckets.now (c.args.hash % length s0.buckets.now) 0; facts = c.args.facts } in
     let es = set s.entries.now s0.len e in
@@ -31,10 +30,10 @@ invariant-of-self c =
     })
     (sound_at _ _ _ _ _ _ refl same refl (sound_of s))
 
-pub invariant-of-self-2 : goal.invariant-of-self-2
-invariant-of-self-2 c =
-    let s = c.write-parts.new.self in
-    let w = c.write-parts.ensures in
+pub invariant_of-self-2 : goal.invariant_of-self-2
+invariant_of-self-2 c =
+    let s = c.write_parts.new.self in
+    let w = c.write_parts.ensures in
     let s0 = c.args.self.now in
     let ps = c.args.parts.now in
     let b = c.args.hash % length s0.buckets.now in

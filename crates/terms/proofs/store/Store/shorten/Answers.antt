@@ -1,14 +1,11 @@
-use Rattle.std.proofs.Common.{◌≡◌, ◌-◌, ◌%◌, ◌≤◌, length, take, set, sym, refl, ap, ◌∙◌, arith}
+use Rattle.std.proofs.Common.{◌-◌, ◌%◌, length, set, ap, arith}
 use Rattle.std.proofs.lemmas.List.{length-set}
-use Rattle.theory.specs.Store.{Contents}
-use Rattle.theory.specs.Trees.{Tree}
-use Rattle.terms.specs.Means.{trees}
 use Rattle.terms.proofs.Packed.{packed, room_of}
 use Rattle.terms.proofs.Shortened.{newest-entry, first_in, trees_cut, sound_shortened}
 use Rattle.terms.proofs.store.Store.shorten.Goals as goal
 
-pub invariant-of-self : goal.invariant-of-self
-invariant-of-self c =
+pub invariant_of-self : goal.invariant_of-self
+invariant_of-self c =
     let s = c.args.self.now in
     let e = newest-entry s c.requires in
     let hd = s.buckets.now in

@@ -1,7 +1,7 @@
-use Rattle.std.proofs.Common.{◌≡◌, ◌-◌, ◌≤◌, length, take, sym, refl, ap, ◌∙◌, arith}
+use Rattle.std.proofs.Common.{◌-◌, ◌≤◌, length, sym, ap, ◌∙◌, arith}
 use Rattle.std.proofs.lemmas.List.{take-take, take_all}
 use Rattle.theory.specs.Store.{Contents, cut_back}
-use Rattle.terms.specs.Means.{trees, means}
+use Rattle.terms.specs.Means.{trees}
 use Rattle.terms.proofs.Pushed.{length-entries}
 use Rattle.terms.proofs.Reading.{length-trees}
 use Rattle.terms.proofs.store.Store.shorten_to.Goals as goal

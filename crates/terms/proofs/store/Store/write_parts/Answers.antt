@@ -1,11 +1,11 @@
-use Rattle.std.proofs.Common.{◌≡◌, ◌+◌, ◌<◌, ◌≤◌, [], ◌∷◌, ◌++◌, length, get_or, take, set, sym, refl, ap, ◌∙◌, append_assoc, arith}
+use Rattle.std.proofs.Common.{◌≡◌, ◌+◌, ◌<◌, [], ◌∷◌, ◌++◌, length, get_or, take, set, sym, refl, ap, ◌∙◌, append_assoc, arith}
 use Rattle.std.proofs.lemmas.List.{take_more, take_more_set, take_all, take-set-le, length-set}
-use Rattle.terms.proofs.Packed.{Room, packed, room_of, sound_of, sound_at}
+use Rattle.terms.proofs.Packed.{packed, room_of, sound_of, sound_at}
 use Rattle.terms.proofs.store.Store.write_parts.Goals as goal
 
 -- what is written lies past the items in use
-pub invariant-of-self : goal.invariant-of-self
-invariant-of-self c =
+pub invariant_of-self : goal.invariant_of-self
+invariant_of-self c =
     let s = c.loop-k.self in
     let at = s.used + c.loop-k.k in
     let v = get_or c.args.parts.now c.loop-k.k 0 in

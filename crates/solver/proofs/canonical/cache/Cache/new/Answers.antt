@@ -8,13 +8,13 @@ use Rattle.solver.proofs.canonical.cache.Cache.new.Goals as goal
 empty : (cs : List Cached) → cs ≡ replicate 65535 vacant → (t : ℕ) → get_or cs t vacant ≡ vacant
 empty cs e t = ap (λ l. get_or l t vacant) e ∙ all-vacant 65535 t
 
-pub invariant-of-result : goal.invariant-of-result
-invariant-of-result c =
-    let cs = vec_items c.in-ok-table.table in
-    let all = empty cs (c.in-ok-table.ensures.items-if-clones-equal (λ y e. e)) in
+pub invariant_of-result : goal.invariant_of-result
+invariant_of-result c =
+    let cs = vec_items c.in_ok-table.table in
+    let all = empty cs (c.in_ok-table.ensures.items_if_clones_equal (λ y e. e)) in
     (lit< tt, ((λ t. let e = ap (λ x. x.round) (all t) in omega (arith, e)), tt))
 
 pub returns : goal.returns
 returns c = λ t.
-    let cs = vec_items c.in-ok-table.table in
-    none_held 1 cs t (lit< tt) (empty cs (c.in-ok-table.ensures.items-if-clones-equal (λ y e. e)) t)
+    let cs = vec_items c.in_ok-table.table in
+    none_held 1 cs t (lit< tt) (empty cs (c.in_ok-table.ensures.items_if_clones_equal (λ y e. e)) t)

@@ -4,10 +4,10 @@ use Rattle.solver.specs.Names.{is_leaf}
 use Rattle.solver.proofs.Firsts.{first_hit, first_miss, first_none}
 use Rattle.solver.proofs.canonical.scratch.Names.find.Goals as goal
 
-pub returns-in-default : goal.returns-in-default
-returns-in-default c =
+pub returns-in_default : goal.returns-in_default
+returns-in_default c =
     let xs = c.args.self.now.list in
-    let le : length (vec_items xs) ≤ c.loop-number.number = omega (arith, c.in-default.ensures, xs.ok.0) in
+    let le : length (vec_items xs) ≤ c.loop-number.number = omega (arith, c.in_default.ensures, xs.ok.0) in
     sym (first_none (is_leaf c.args.original) (vec_items xs) c.loop-number.number le) ∙ c.loop-number.invariant
 
 pub returns-then-name-original : goal.returns-then-name-original
