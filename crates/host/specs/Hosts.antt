@@ -1,5 +1,5 @@
 -- What a host answers, by its counts, its places and its table of roots.
-use Rattle.std.specs.Prelude.{◌≡◌, ℕ, ◌+◌, ◌<◌, min, max, Bool, true, false, cond, List, [], ◌∷◌, ◌++◌, Ok, Err, vec_items, vec_len, Result, ◌==◌, nat_lt, slice_index}
+use Rattle.std.specs.Prelude.{◌≡◌, ℕ, ◌+◌, ◌<◌, min, max, Bool, true, false, cond, [], Ok, Err, vec_items, vec_len, Result, ◌==◌, nat_lt, slice_index}
 use Rattle.host.specs.declared.fault.HostFault.{HostFault}
 use Rattle.host.specs.declared.fault.HostFault.TheVariants.{UnknownVariable, UnknownUniverse, LogFull}
 use Rattle.host.specs.declared.fault.VariableSort.{VariableSort}

@@ -1,10 +1,10 @@
 -- The slots of a map's memory and the pairs that they mean.
-use Rattle.std.proofs.Common.{◌≡◌, ℕ, ◌<◌, ◌≤◌, List, map, length, get_or, take, sym, refl, ap, ◌∙◌, arith}
-use mathlib.Core.Option.{Option, none, some}
+use Rattle.std.proofs.Common.{◌≡◌, ℕ, ◌<◌, ◌≤◌, List, map, length, get_or, take, sym, ap, ◌∙◌, arith}
+use mathlib.Core.Option.{none, some}
 use Rattle.std.proofs.lemmas.List.{length-map, length-take-le, get_or-map, get_or-take}
 use Rattle.theory.specs.Outcomes.{at}
 use Rattle.maps.specs.declared.slot.Slot.{Slot}
-use Rattle.maps.specs.Pairs.{Pair, pair_of, hash_at, next_at}
+use Rattle.maps.specs.Pairs.{pair_of, hash_at, next_at}
 use Rattle.maps.proofs.Elements.{at_in, at_out}
 
 module _ {K V : Type 0} (ss : List (Slot K V)) where

@@ -1,5 +1,5 @@
 -- A walk along a bucket's chain meets every entry that is sought, where what is sought has the hash of that bucket.
-use Rattle.std.proofs.Common.{◌≡◌, ℕ, suc, ◌-◌, ◌%◌, ◌<◌, ◌≤◌, true, List, length, get_or, sym, refl, ap, ◌∙◌, subst, ⊎_elim, arith}
+use Rattle.std.proofs.Common.{◌≡◌, ℕ, ◌-◌, ◌%◌, ◌<◌, ◌≤◌, true, List, length, get_or, sym, ap, ◌∙◌, subst, ⊎_elim, arith}
 use Rattle.std.proofs.lemmas.Bool.{eqb-true, eq-eqb, cases_eq}
 use Rattle.maps.specs.Chains.{newest, on_bucket, Heads, Nexts}
 use Rattle.maps.proofs.Newest.{newest_le, newest-hit, newest_covers}

@@ -1,10 +1,10 @@
 -- Slots after a write: their hashes and links, and the pairs that they mean.
 use Rattle.std.proofs.Common.{◌≡◌, ℕ, zero, suc, ◌+◌, ◌%◌, ◌<◌, ◌≤◌, List, [], ◌∷◌, ◌++◌, map, length, get_or, take, set, sym, refl, ap, ◌∙◌, subst, ⊎_elim, arith}
 use Rattle.std.proofs.lemmas.Bool.{cases_eq}
-use Rattle.std.proofs.lemmas.List.{length-map, length-set, get_or-set_same, get_or-set_other, map-set, map_push, take_more_set}
+use Rattle.std.proofs.lemmas.List.{length-map, get_or-set_same, get_or-set_other, map-set, map_push, take_more_set}
 use Rattle.maps.specs.declared.slot.Slot.{Slot}
 use Rattle.maps.specs.Chains.{newest, on_bucket, Heads, Nexts}
-use Rattle.maps.specs.Pairs.{Pair, pair_of, hash_at, next_at, revalued}
+use Rattle.maps.specs.Pairs.{pair_of, hash_at, next_at, revalued}
 use Rattle.maps.proofs.Links.{Agree, heads_push, nexts_push, heads_agree, nexts_agree, heads_cut, nexts_cut}
 use Rattle.maps.proofs.Slots.{hash_is, next_is}
 

@@ -1,7 +1,7 @@
 -- A hash index: each bucket's chain of entries as a function of the entries' hashes. A bucket names its newest entry, and
 -- an entry the newest one before it in its bucket; places count from 1, and 0 ends a chain.
 -- Of the entries only their hashes and links matter here, each a function of the place.
-use Rattle.std.specs.Prelude.{◌≡◌, ℕ, zero, suc, ◌%◌, ◌<◌, Bool, true, false, cond, List, length, ◌==◌, slice_index}
+use Rattle.std.specs.Prelude.{◌≡◌, ℕ, zero, suc, ◌%◌, ◌<◌, Bool, cond, List, length, ◌==◌, slice_index}
 
 -- one more than the last k below m with p k, or 0
 abbrev pub newest : (ℕ → Bool) → ℕ → ℕ

@@ -1,6 +1,5 @@
 -- What the calls on a foldable value answer, over the list of its roots.
-use Rattle.std.specs.Prelude.{ℕ, Bool, true, false, cond, List, length, Ok, Err, Result, nat_lt, slice_index, slice_set}
-use Rattle.theory.specs.declared.words.Sort.{Sort}
+use Rattle.std.specs.Prelude.{ℕ, cond, List, length, Ok, Err, Result, nat_lt, slice_index, slice_set}
 use Rattle.theory.specs.declared.words.StoreFault.{StoreFault}
 use Rattle.theory.specs.declared.words.StoreFault.TheVariants.{BadPart, TooLong}
 use Rattle.theory.specs.Outcomes.{◌>>=◌, must}

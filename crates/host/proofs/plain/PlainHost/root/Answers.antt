@@ -1,5 +1,5 @@
 -- What is read is the element of the table, which is never above its place.
-use Rattle.std.proofs.Common.{◌≡◌, ℕ, ◌<◌, ◌≤◌, get_or, Ok, vec_items, vec_len, sym, ap, subst, arith, lt-ltb}
+use Rattle.std.proofs.Common.{◌<◌, Ok, vec_items, vec_len, ap, arith, lt-ltb}
 use Rattle.std.proofs.lemmas.List.{get_or_read_under}
 use Rattle.host.proofs.plain.PlainHost.root.Goals as goal
 

@@ -12,13 +12,4 @@ pub invariant_of-result : goal.invariant_of-result
 invariant_of-result g c =
     let is = c.limit_of-limit.ensures in
     let slots = length c.args.slots.now in
-    let buckets = length c.loop-b.buckets in (
-      omega arith,
-      (
-        subst (λ v. v ≤ 65535) (sym is) (limited_few slots buckets),
-        (
-          subst (λ v. v ≤ slots) (sym is) (limited_lent slots buckets),
-          (subst (λ v. v ≤ 65535 * buckets) (sym is) (limited_indexed slots buckets), (λ b l. c.loop-b.invariant b (omega arith), (λ i l. absurd (omega arith), tt))),
-        ),
-      ),
-    )
+    let buckets = length c.loop-b.buckets in record { within = omega arith; few = subst (λ v. v ≤ 65535) (sym is) (limited_few slots buckets); lent = subst (λ v. v ≤ slots) (sym is) (limited_lent slots buckets); indexed = subst (λ v. v ≤ 65535 * buckets) (sym is) (limited_indexed slots buckets); firsts = (λ b l. c.loop-b.invariant b (omega arith)); others = (λ i l. absurd (omega arith)) }

@@ -1,4 +1,4 @@
-use Rattle.std.proofs.Common.{◌+◌, ◌*◌, ◌%◌, ◌<◌, ◌≤◌, length, get_or, set, sym, refl, subst, arith}
+use Rattle.std.proofs.Common.{◌+◌, ◌%◌, ◌<◌, length, get_or, set, sym, refl, subst, arith}
 use Rattle.std.proofs.lemmas.Nat.{mod_below}
 use Rattle.std.proofs.lemmas.List.{length-set}
 use Rattle.maps.specs.Chains.{Nexts}
@@ -13,10 +13,7 @@ invariant_of-self g c =
     let m = c.args.self.now in
     let ss = m.slots.now in
     let room : m.len < length ss = omega (arith, c.requires, m.lent) in
-    let s : Slot g.row.K.Denot g.row.V.Denot = record { key = c.args.key; value = c.args.value; hash = c.args.hash; next = get_or m.buckets.now (c.args.hash % length m.buckets.now) 0 } in (
-      m.within,
-      (m.few, (omega (arith, m.lent, length-set ss m.len s), (m.indexed, (heads_behind ss m.len room s m.buckets.now m.firsts, (nexts_behind ss m.len room s (length m.buckets.now) m.others, tt))))),
-    )
+    let s : Slot g.row.K.Denot g.row.V.Denot = record { key = c.args.key; value = c.args.value; hash = c.args.hash; next = get_or m.buckets.now (c.args.hash % length m.buckets.now) 0 } in record { within = m.within; few = m.few; lent = omega (arith, m.lent, length-set ss m.len s); indexed = m.indexed; firsts = heads_behind ss m.len room s m.buckets.now m.firsts; others = nexts_behind ss m.len room s (length m.buckets.now) m.others }
 
 pub invariant_of-self-2 : goal.invariant_of-self-2
 invariant_of-self-2 g c =
@@ -27,22 +24,7 @@ invariant_of-self-2 g c =
     let s : Slot g.row.K.Denot g.row.V.Denot = record { key = c.args.key; value = c.args.value; hash = c.args.hash; next = get_or hd (c.args.hash % length hd) 0 } in
     let b = c.args.hash % length hd in
     let some : b < length hd = mod_below c.args.hash (length hd) (omega (arith, c.requires, m.indexed)) in
-    let size = length-set hd b (m.len + 1) in (
-      omega (arith, c.requires),
-      (
-        m.few,
-        (
-          omega (arith, m.lent, length-set ss m.len s),
-          (
-            omega (arith, m.indexed, size),
-            (
-              heads_more ss m.len room s hd some m.firsts,
-              (subst (λ k. Nexts (hash_at (set ss m.len s)) (next_at (set ss m.len s)) (m.len + 1) k) (sym size) (nexts_more ss m.len room s hd some refl m.firsts m.others), tt),
-            ),
-          ),
-        ),
-      ),
-    )
+    let size = length-set hd b (m.len + 1) in record { within = omega (arith, c.requires); few = m.few; lent = omega (arith, m.lent, length-set ss m.len s); indexed = omega (arith, m.indexed, size); firsts = heads_more ss m.len room s hd some m.firsts; others = subst (λ k. Nexts (hash_at (set ss m.len s)) (next_at (set ss m.len s)) (m.len + 1) k) (sym size) (nexts_more ss m.len room s hd some refl m.firsts m.others) }
 
 pub returns : goal.returns
 returns g c =

@@ -8,22 +8,7 @@ invariant_of-self g c =
     let m = c.args.self.now in
     let ss = m.slots.now in
     let s = c.slot-old.result in
-    let few : m.len ≤ length ss = omega (arith, m.within, m.lent) in (
-      m.within,
-      (
-        m.few,
-        (
-          omega (arith, m.lent, length-set ss c.args.place (with_value s c.args.value)),
-          (
-            m.indexed,
-            (
-              heads_revalued ss m.len c.args.place s c.args.value c.requires few c.slot-old.ensures m.buckets.now m.firsts,
-              (nexts_revalued ss m.len c.args.place s c.args.value c.requires few c.slot-old.ensures (length m.buckets.now) m.others, tt),
-            ),
-          ),
-        ),
-      ),
-    )
+    let few : m.len ≤ length ss = omega (arith, m.within, m.lent) in record { within = m.within; few = m.few; lent = omega (arith, m.lent, length-set ss c.args.place (with_value s c.args.value)); indexed = m.indexed; firsts = heads_revalued ss m.len c.args.place s c.args.value c.requires few c.slot-old.ensures m.buckets.now m.firsts; others = nexts_revalued ss m.len c.args.place s c.args.value c.requires few c.slot-old.ensures (length m.buckets.now) m.others }
 
 pub returns : goal.returns
 returns g c =

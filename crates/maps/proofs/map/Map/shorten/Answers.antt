@@ -1,4 +1,4 @@
-use Rattle.std.proofs.Common.{◌≡◌, ◌+◌, ◌-◌, ◌*◌, ◌%◌, ◌<◌, ◌≤◌, length, sym, subst, arith}
+use Rattle.std.proofs.Common.{◌≡◌, ◌+◌, ◌-◌, ◌%◌, ◌<◌, length, sym, subst, arith}
 use Rattle.std.proofs.lemmas.Nat.{mod_below}
 use Rattle.std.proofs.lemmas.List.{length-set}
 use Rattle.maps.specs.Chains.{Heads, Nexts}
@@ -17,19 +17,4 @@ invariant_of-self g c =
     let room : last < length ss = omega (arith, c.requires, m.within, m.lent) in
     let some : s.hash % length hd < length hd = mod_below s.hash (length hd) (omega (arith, c.requires, m.within, m.indexed)) in
     let size = length-set hd (s.hash % length hd) s.next in
-    let others : Nexts (hash_at ss) (next_at ss) (last + 1) (length hd) = subst (λ k. Nexts (hash_at ss) (next_at ss) k (length hd)) back m.others in (
-      omega (arith, m.within),
-      (
-        m.few,
-        (
-          m.lent,
-          (
-            omega (arith, m.indexed, size),
-            (
-              heads_less ss last room s c.slot-slot.ensures hd some others (subst (λ k. Heads (hash_at ss) k hd) back m.firsts),
-              (subst (λ k. Nexts (hash_at ss) (next_at ss) last k) (sym size) (nexts_less ss last room s c.slot-slot.ensures (length hd) others), tt),
-            ),
-          ),
-        ),
-      ),
-    )
+    let others : Nexts (hash_at ss) (next_at ss) (last + 1) (length hd) = subst (λ k. Nexts (hash_at ss) (next_at ss) k (length hd)) back m.others in record { within = omega (arith, m.within); few = m.few; lent = m.lent; indexed = omega (arith, m.indexed, size); firsts = heads_less ss last room s c.slot-slot.ensures hd some others (subst (λ k. Heads (hash_at ss) k hd) back m.firsts); others = subst (λ k. Nexts (hash_at ss) (next_at ss) last k) (sym size) (nexts_less ss last room s c.slot-slot.ensures (length hd) others) }

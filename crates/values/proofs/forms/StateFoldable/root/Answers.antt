@@ -1,4 +1,4 @@
-use Rattle.std.proofs.Common.{◌≡◌, ap, ◌∙◌, arith}
+use Rattle.std.proofs.Common.{ap, ◌∙◌, arith}
 use Rattle.values.specs.Lists.{moved, root_behind}
 use Rattle.values.proofs.forms.StateFoldable.root.Goals as goal
 
