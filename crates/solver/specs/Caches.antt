@@ -1,5 +1,5 @@
 -- The results of a walk, each with the round that it was found in.
-use Rattle.std.specs.Prelude.{ℕ, Bool, true, false, cond, List, Some, None, Option, ◌==◌, slice_index_or}
+use Rattle.std.specs.Prelude.{ℕ, cond, List, Some, None, Option, ◌==◌, slice_index_or}
 use Rattle.solver.specs.declared.canonical.cache.Cached.{Cached}
 
 abbrev pub kept_in : ℕ → ℕ → Cached

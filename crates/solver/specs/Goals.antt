@@ -1,7 +1,6 @@
 -- Which leaves of a goal are names, the form of the kind that each gets, and how names are listed.
-use Rattle.std.specs.Prelude.{ℕ, Bool, true, false, cond, List, [], ◌∷◌, ◌++◌, length, Some, None, Ok, Err, Option, Result, nat_lt}
+use Rattle.std.specs.Prelude.{ℕ, cond, List, [], ◌∷◌, ◌++◌, length, Some, None, Ok, Err, Option, Result, nat_lt}
 use Rattle.std.specs.Option.{unwrap_or}
-use Rattle.theory.specs.Outcomes.{answered}
 use Rattle.theory.specs.declared.words.ArgSort.{ArgSort}
 use Rattle.theory.specs.declared.words.ArgSort.TheVariants.{Ty as ty, Region as region, Const as const}
 use Rattle.theory.specs.declared.words.VarSort.{VarSort}

@@ -1,5 +1,5 @@
 -- The names of a goal, in the order in which they are met.
-use Rattle.std.specs.Prelude.{ℕ, ◌+◌, Bool, true, false, cond, List, [], ◌∷◌, Some, None, Option, ◌==◌}
+use Rattle.std.specs.Prelude.{ℕ, ◌+◌, Bool, false, cond, List, [], ◌∷◌, Some, None, Option, ◌==◌}
 use Rattle.solver.specs.declared.canonical.scratch.Name.{Name}
 
 -- the number of the first name that passes a test, counted from k

@@ -1,6 +1,6 @@
 -- The number of a call's refusal: that of the host's fault inside it; 11 canonical variable present; 13 type variable in the
 -- environment; 14 environment in the value; 15 a name too many.
-use Rattle.std.specs.Prelude.{ℕ, Bool, true, false, ◌||◌, ◌==◌}
+use Rattle.std.specs.Prelude.{ℕ, Bool, ◌||◌, ◌==◌}
 use Rattle.host.specs.Numbers.{host_number}
 use Rattle.host.specs.declared.fault.HostFault.{HostFault}
 use Rattle.host.specs.declared.fault.HostFault.TheVariants.{Store, UnknownVariable, UnknownUniverse, LogFull}

@@ -1,5 +1,5 @@
 -- Beyond the table there is nothing.
-use Rattle.std.proofs.Common.{◌≡◌, ◌≤◌, length, vec_items, sym, arith}
+use Rattle.std.proofs.Common.{◌≤◌, length, vec_items, sym, arith}
 use Rattle.std.proofs.lemmas.List.{get_or_past}
 use Rattle.solver.specs.Caches.{vacant}
 use Rattle.solver.proofs.Tables.{none_held}

@@ -12,7 +12,7 @@ pub invariant_of-result : goal.invariant_of-result
 invariant_of-result c =
     let cs = vec_items c.in_ok-table.table in
     let all = empty cs (c.in_ok-table.ensures.items_if_clones_equal (λ y e. e)) in
-    (lit< tt, ((λ t. let e = ap (λ x. x.round) (all t) in omega (arith, e)), tt))
+    record { begun = lit< tt; past = λ t. let e = ap (λ (x : Cached). x.round) (all t) in omega (arith, e) }
 
 pub returns : goal.returns
 returns c = λ t.

@@ -1,5 +1,5 @@
 -- Beyond the table nothing is written.
-use Rattle.std.proofs.Common.{◌≡◌, ◌≤◌, length, vec_items, sym, refl, arith}
+use Rattle.std.proofs.Common.{◌≤◌, length, vec_items, sym, refl, arith}
 use Rattle.std.proofs.lemmas.List.{set_past}
 use Rattle.solver.specs.Caches.{kept_in}
 use Rattle.solver.proofs.canonical.cache.Cache.put.Goals as goal

@@ -1,5 +1,5 @@
 -- At each place the search ends, or goes on behind it.
-use Rattle.std.proofs.Common.{◌≡◌, ◌<◌, ◌≤◌, length, vec_items, sym, ◌∙◌, arith, eq-eqb, ne_eqb}
+use Rattle.std.proofs.Common.{◌<◌, ◌≤◌, length, vec_items, sym, ◌∙◌, arith, eq-eqb, ne_eqb}
 use Rattle.solver.specs.Names.{is_leaf}
 use Rattle.solver.proofs.Firsts.{first_hit, first_miss, first_none}
 use Rattle.solver.proofs.canonical.scratch.Names.find.Goals as goal
