@@ -1,5 +1,4 @@
 -- The sort of what a form makes, and the sort that the store finds in what is made.
-use Rattle.theory.specs.declared.words.ArgSort.{ArgSort}
 use Rattle.theory.specs.declared.words.ArgSort.TheVariants.{Ty as ty, Region as region, Const as const}
 use Rattle.theory.specs.declared.words.Sort.{Sort}
 use Rattle.theory.specs.declared.words.Sort.TheVariants.{Argument, Predicate as predicate, OpaquePair as opaque_pair, Goal as goal, Kind as kind, List as list_of}

@@ -4,9 +4,7 @@ ghost use Rattle.theory.specs.Trees.{applies};
 
 use crate::trouble::Trouble;
 use host::VariableSort;
-use std::alloc::Global;
-use std::fmt;
-use std::fmt::Write;
+use std::alloc::{AllocError, Global};
 use terms::Store;
 use theory::{ArgSort, Handle, Head, Kind, Leaf, ListSort, Node, VarSort};
 
@@ -54,11 +52,11 @@ fn placeholder_kind_word(sort: ArgSort) -> &'static str {
     }
 }
 
-fn write_kind(out: &mut String, kind: Kind) -> fmt::Result {
+fn write_kind(out: &mut String, kind: Kind) -> Result<(), AllocError> {
     match kind {
         Kind::Ty(universe, root) => write!(out, "(Ty {universe} {root})"),
-        Kind::Int => out.write_str("Int"),
-        Kind::Float => out.write_str("Float"),
+        Kind::Int => out.push_str("Int"),
+        Kind::Float => out.push_str("Float"),
         Kind::Region(universe) => write!(out, "(Region {universe})"),
         Kind::Const(universe) => write!(out, "(Const {universe})"),
         Kind::Placeholder(sort, universe, number) => {
@@ -68,7 +66,7 @@ fn write_kind(out: &mut String, kind: Kind) -> fmt::Result {
     }
 }
 
-fn write_leaf(out: &mut String, leaf: Leaf) -> fmt::Result {
+fn write_leaf(out: &mut String, leaf: Leaf) -> Result<(), AllocError> {
     match leaf {
         Leaf::Variable(sort, number) => {
             let letter = var_letter(sort);
@@ -96,8 +94,8 @@ fn write_leaf(out: &mut String, leaf: Leaf) -> fmt::Result {
             let letter = arg_letter(sort);
             write!(out, "{letter}err")
         }
-        Leaf::Static => out.write_str("static"),
-        Leaf::Erased => out.write_str("erased"),
+        Leaf::Static => out.push_str("static"),
+        Leaf::Erased => out.push_str("erased"),
         Leaf::Kind(kind) => write_kind(out, kind),
     }
 }
@@ -114,18 +112,18 @@ fn list_word(sort: ListSort) -> &'static str {
 }
 
 // The opening parenthesis of a form, its name and the numbers before its parts.
-fn write_head(out: &mut String, head: Head) -> fmt::Result {
+fn write_head(out: &mut String, head: Head) -> Result<(), AllocError> {
     match head {
         Head::Constructor(number) => write!(out, "(c {number}"),
         Head::Alias(number) => write!(out, "(a {number}"),
         Head::Function(count) => write!(out, "(fn {count}"),
         Head::Unevaluated(number) => write!(out, "(u {number}"),
         Head::Predicate(number, count) => write!(out, "(p {number} {count}"),
-        Head::Value(_) => out.write_str("(v"),
-        Head::OpaquePair => out.write_str("(o"),
-        Head::Goal => out.write_str("(g"),
-        Head::Outlives(_) => out.write_str("(outl"),
-        Head::Equal(_) => out.write_str("(eq"),
+        Head::Value(_) => out.push_str("(v"),
+        Head::OpaquePair => out.push_str("(o"),
+        Head::Goal => out.push_str("(g"),
+        Head::Outlives(_) => out.push_str("(outl"),
+        Head::Equal(_) => out.push_str("(eq"),
         Head::List(sort) => {
             let word = list_word(sort);
             write!(out, "({word}")
@@ -134,15 +132,15 @@ fn write_head(out: &mut String, head: Head) -> fmt::Result {
 }
 
 // What follows the parts of a form: the number that stands after them, if any, and the closing parenthesis.
-fn write_tail(out: &mut String, head: Head) -> fmt::Result {
+fn write_tail(out: &mut String, head: Head) -> Result<(), AllocError> {
     match head {
         Head::Value(value) => write!(out, " {value})"),
-        Head::Outlives(visible) | Head::Equal(visible) => out.write_str(if visible {
+        Head::Outlives(visible) | Head::Equal(visible) => out.push_str(if visible {
             " 1)"
         } else {
             " 0)"
         }),
-        _ => out.write_str(")"),
+        _ => out.push_str(")"),
     }
 }
 
@@ -201,7 +199,7 @@ impl Printer {
         out: &mut String,
         list: Handle,
     ) -> Result<(), Trouble> {
-        out.write_str("(vals")?;
+        out.push_str("(vals")?;
         self.jobs.clear();
         self.jobs.push(Job::Tail(Head::List(ListSort::Arguments)))?;
         self.jobs.push(Job::Parts(list, 0))?;
@@ -251,7 +249,7 @@ impl Printer {
             Node::Over(_, count) => count,
         };
         if place < count {
-            out.write_str(" ")?;
+            out.push_str(" ")?;
             self.jobs.push(Job::Parts(term, place + 1))?;
             self.jobs.push(Job::Term(store.part(term, place)?))?;
         }

@@ -2,8 +2,8 @@
 use crate::form::Place;
 use crate::lex;
 use crate::lex::Token;
+use std::alloc::AllocError;
 use std::fmt;
-use std::fmt::Write;
 use theory::{ArgSort, ListSort, Sort, Want};
 
 #[derive(Clone, Copy)]
@@ -79,33 +79,36 @@ fn place_words(place: Place) -> &'static str {
 }
 
 // The token in quotes, cut where it is long.
-fn write_token(out: &mut String, text: &[u8], token: Token) -> fmt::Result {
-    out.write_str(" '")?;
+fn write_token(out: &mut String, text: &[u8], token: Token) -> Result<(), AllocError> {
+    out.push_str(" '")?;
     for b in lex::bytes_of(text, token).iter().take(40) {
         let c = char::from(*b);
         write!(out, "{c}")?;
     }
-    out.write_str("'")
+    out.push_str("'")
 }
 
-fn write_about_token(out: &mut String, words: &str, text: &[u8], token: Token) -> fmt::Result {
-    out.write_str(words)?;
+fn write_about_token(
+    out: &mut String,
+    words: &str,
+    text: &[u8],
+    token: Token,
+) -> Result<(), AllocError> {
+    out.push_str(words)?;
     write_token(out, text, token)
 }
 
-fn write_wanted(out: &mut String, found: &str, place: Place) -> fmt::Result {
+fn write_wanted(out: &mut String, found: &str, place: Place) -> Result<(), AllocError> {
     let wanted = place_words(place);
     write!(out, "{found} stands where {wanted} is wanted")
 }
 
-fn write_reason(out: &mut String, text: &[u8], complaint: Complaint) -> fmt::Result {
+fn write_reason(out: &mut String, text: &[u8], complaint: Complaint) -> Result<(), AllocError> {
     let token = complaint.token;
     match complaint.reason {
-        Reason::NoCommand => out.write_str("a line begins with the name of a command"),
+        Reason::NoCommand => out.push_str("a line begins with the name of a command"),
         Reason::UnknownCommand => write_about_token(out, "no command has the name", text, token),
-        Reason::NoHead => out.write_str(
-            "the name of a form is wanted after an opening parenthesis",
-        ),
+        Reason::NoHead => out.push_str("the name of a form is wanted after an opening parenthesis"),
         Reason::UnknownForm => write_about_token(out, "no form has the name", text, token),
         Reason::NotYet => write_about_token(out, "this form is not read yet:", text, token),
         Reason::UnknownWord => write_about_token(out, "no term has the form", text, token),
@@ -115,15 +118,15 @@ fn write_reason(out: &mut String, text: &[u8], complaint: Complaint) -> fmt::Res
             text,
             token,
         ),
-        Reason::Foreign => out.write_str("only ASCII characters are read outside comments"),
+        Reason::Foreign => out.push_str("only ASCII characters are read outside comments"),
         Reason::TooLarge(limit) => write!(
             out,
             "the number is too large: at most {limit} is taken here"
         ),
         Reason::TooMany(most) => write!(out, "too many fields: at most {most} here"),
         Reason::TooFew(there, least) => write!(out, "too few fields: {there} of {least}"),
-        Reason::NoOpen => out.write_str("this closing parenthesis closes nothing"),
-        Reason::NoClose => out.write_str("this parenthesis is never closed"),
+        Reason::NoOpen => out.push_str("this closing parenthesis closes nothing"),
+        Reason::NoClose => out.push_str("this parenthesis is never closed"),
         Reason::Misplaced(sort, place) => write_wanted(out, sort_words(sort), place),
         Reason::NumberMisplaced(place) => write_wanted(out, "a number", place),
         Reason::Wanted(place) => {
@@ -143,5 +146,6 @@ pub fn write_complaint(
 ) -> fmt::Result {
     let column = complaint.token.start.saturating_add(1);
     write!(out, "bad {line}:{column}: ")?;
-    write_reason(out, text, complaint)
+    write_reason(out, text, complaint)?;
+    Ok(())
 }
