@@ -1,7 +1,6 @@
 // Two canonical goals side by side: how their names pair, or where they first differ, in words.
 use solver::Difference;
-use std::fmt;
-use std::fmt::Write;
+use std::alloc::AllocError;
 use terms::Store;
 use text::{Printer, Trouble};
 use theory::{ArgSort, Handle, Kind, Leaf, Node, StoreFault};
@@ -19,14 +18,14 @@ pub fn write_pairing(
         Node::Over(_, count) => count,
     };
     if count == 0 {
-        out.write_str("same: no names")?;
+        out.push_str("same: no names")?;
         return Ok(());
     }
-    out.write_str("same:")?;
+    out.push_str("same:")?;
     for place in 0..count {
-        out.write_str(if place == 0 { " " } else { ", " })?;
+        out.push_str(if place == 0 { " " } else { ", " })?;
         printer.value(store, out, store.part(first, place)?)?;
-        out.write_str(" ~ ")?;
+        out.push_str(" ~ ")?;
         printer.value(store, out, store.part(second, place)?)?;
     }
     Ok(())
@@ -47,23 +46,23 @@ fn kind_words(kind: Kind) -> &'static str {
 }
 
 // With which earlier name a type variable shares its sub class.
-fn write_class(out: &mut String, name: u32, root: u32) -> fmt::Result {
+fn write_class(out: &mut String, name: u32, root: u32) -> Result<(), AllocError> {
     if root == name {
-        out.write_str("no earlier name")
+        out.push_str("no earlier name")
     } else {
         write!(out, "name {root}")
     }
 }
 
-fn write_classes(out: &mut String, name: u32, first: u32, second: u32) -> fmt::Result {
+fn write_classes(out: &mut String, name: u32, first: u32, second: u32) -> Result<(), AllocError> {
     write!(out, "name {name} shares its class with ")?;
     write_class(out, name, first)?;
-    out.write_str(" in the first goal and with ")?;
+    out.push_str(" in the first goal and with ")?;
     write_class(out, name, second)?;
-    out.write_str(" in the second")
+    out.push_str(" in the second")
 }
 
-fn write_kinds(out: &mut String, name: u32, first: Kind, second: Kind) -> fmt::Result {
+fn write_kinds(out: &mut String, name: u32, first: Kind, second: Kind) -> Result<(), AllocError> {
     if let Kind::Ty(_, one) = first {
         if let Kind::Ty(_, two) = second {
             return write_classes(out, name, one, two);
@@ -94,7 +93,7 @@ fn write_terms(
 ) -> Result<(), Trouble> {
     write!(out, "in the {part}, ")?;
     printer.value(store, out, first)?;
-    out.write_str(" stands against ")?;
+    out.push_str(" stands against ")?;
     printer.value(store, out, second)
 }
 
@@ -105,7 +104,7 @@ pub fn write_difference(
     out: &mut String,
     difference: Difference,
 ) -> Result<(), Trouble> {
-    out.write_str("differ: ")?;
+    out.push_str("differ: ")?;
     match difference {
         Difference::Mode(a, b) => write!(out, "the typing modes are {a} and {b}")?,
         Difference::NameCount(a, b) => write!(
