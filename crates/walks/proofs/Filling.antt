@@ -1,11 +1,10 @@
 -- What filling canonical variables in does to a term, from what it does to its parts; that it keeps sorts, does the same again
 -- and leaves alone what has no canonical variable.
-use Rattle.std.proofs.Common.{◌≡◌, ℕ, zero, suc, ◌+◌, ◌<◌, ◌≤◌, Bool, true, false, cond, eqb, ◌⊎◌, List, [], ◌∷◌, length, get_or, Ok, Err, Result, sym, refl, ap, ◌∙◌, subst, inl, inr, ⊎_elim, arith}
-use mathlib.Core.Option.{Option, none, some}
+use Rattle.std.proofs.Common.{◌≡◌, ℕ, ◌+◌, true, false, ◌⊎◌, List, [], ◌∷◌, Ok, Err, Result, sym, refl, ap, ◌∙◌, subst, inl, inr, ⊎_elim, arith}
+use mathlib.Core.Option.{some}
 use lib.Bits.{bit_and}
-use Rattle.std.proofs.lemmas.Bool.{both_ways, cases_Bool, eqb-true, eq-eqb, lt-ltb, ltb-true}
+use Rattle.std.proofs.lemmas.Bool.{both_ways, eqb-true, eq-eqb, lt-ltb, ltb-true}
 use Rattle.theory.specs.declared.words.ArgSort.{ArgSort}
-use Rattle.theory.specs.declared.words.ArgSort.TheVariants.{Ty as ty, Region as region, Const as const}
 use Rattle.theory.specs.declared.words.Sort.{Sort}
 use Rattle.theory.specs.declared.words.Sort.TheVariants.{Argument}
 use Rattle.theory.specs.declared.words.ListSort.TheVariants.{Arguments}
@@ -13,20 +12,19 @@ use Rattle.theory.specs.declared.words.Leaf.{Leaf}
 use Rattle.theory.specs.declared.words.Leaf.TheVariants.{Variable, RegionVariable, Parameter, LateParameter, Placeholder, Bound, Canonical, Error, Static, Erased, Kind as AKind}
 use Rattle.theory.specs.declared.words.Head.{Head}
 use Rattle.theory.specs.declared.words.Head.TheVariants.{List as AList}
-use Rattle.theory.specs.declared.words.Node.{Node}
 use Rattle.theory.specs.declared.words.Node.TheVariants.{Leaf as ALeaf, Over}
 use Rattle.theory.specs.declared.words.Want.{Want}
 use Rattle.theory.specs.declared.words.Want.TheVariants.{Nothing, Argument as AnArgument, Alias as AnAlias, Of}
 use Rattle.theory.specs.declared.words.StoreFault.{StoreFault}
 use Rattle.theory.specs.Faults.{Fault, from_store, not_canonical, wrong_sort}
 use Rattle.theory.specs.Outcomes.{at, given, must, raised, ◌>>=◌}
-use Rattle.theory.specs.Trees.{Tree, leaf, node, nil, cons, row, under, applied, applies, assembled, opens, seen, node_sort, sort_code, same_sort, is_argument, meets, leaf_flags, flags}
-use Rattle.theory.specs.Forms.{any, is_canonical, sort_of}
+use Rattle.theory.specs.Trees.{Tree, leaf, node, nil, cons, row, applies, assembled, opens, seen, node_sort, sort_code, same_sort, meets, leaf_flags, flags}
+use Rattle.theory.specs.Forms.{is_canonical, sort_of}
 use Rattle.theory.specs.Store.{Contents, put, Grown}
-use Rattle.theory.specs.Folds.{Folded, folded, FoldedAll, folded_all, put_list, rebuild, fold, fold_all, anywhere}
+use Rattle.theory.specs.Folds.{Folded, folded, FoldedAll, folded_all, rebuild, fold, fold_all, anywhere}
 use Rattle.theory.specs.Applying.{filled_with, fill_leaf, fill}
 use Rattle.theory.proofs.Growth.{grown_same, grown-then}
-use Rattle.theory.proofs.Steps.{never_ok, ok_one, bind_ok, given_ok, must_ok}
+use Rattle.theory.proofs.Steps.{ok_one, bind_ok, given_ok, must_ok}
 use Rattle.theory.proofs.Holding.{fold-leaf, fold-node, fold-nil, fold-cons}
 use Rattle.theory.proofs.Again.{Repeats, fold_goes, fold-again}
 use Rattle.theory.proofs.Unchanged.{Inside, fold_unchanged}

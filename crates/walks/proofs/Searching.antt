@@ -1,5 +1,5 @@
 -- One turn of the search for a leaf with a flag.
-use Rattle.std.proofs.Common.{◌≡◌, ℕ, ◌+◌, ◌<◌, ◌≤◌, true, false, not, eqb, List, [], ◌∷◌, length, get_or, drop, Some, None, Ok, Err, Option, Result, sym, refl, ap, ◌∙◌, subst, arith}
+use Rattle.std.proofs.Common.{◌≡◌, ℕ, ◌+◌, ◌<◌, ◌≤◌, true, not, ◌∷◌, length, get_or, drop, Some, None, Ok, Err, Option, Result, sym, ap, ◌∙◌, subst, arith}
 use lib.Bits.{bit_and}
 use Rattle.std.proofs.lemmas.List.{drop_more, drop_all}
 use Rattle.std.proofs.lemmas.Bool.{ne_eqb}
@@ -9,7 +9,7 @@ use Rattle.theory.specs.declared.words.Leaf.{Leaf}
 use Rattle.theory.specs.declared.words.Node.TheVariants.{Leaf as ALeaf, Over}
 use Rattle.theory.specs.declared.words.StoreFault.{StoreFault}
 use Rattle.theory.specs.Outcomes.{◌>>=◌}
-use Rattle.theory.specs.Trees.{Tree, leaf, nil, parts, seen, flags, facts, leaf_flags}
+use Rattle.theory.specs.Trees.{Tree, leaf, nil, parts, seen, flags, leaf_flags}
 use Rattle.theory.specs.Store.{found, get, part, facts_at}
 use Rattle.theory.proofs.Steps.{never_ok, ok_one}
 use Rattle.terms.specs.declared.store.Store.{Store}
@@ -19,7 +19,7 @@ use Rattle.walks.specs.Flagged.{or_else, flagged, if_so, first_leaf, first_flagg
 use Rattle.walks.proofs.Flags.{none_first}
 use Rattle.walks.proofs.Firsts.{first_among, first_of-parts}
 use Rattle.walks.proofs.Ranks.{rank_falls}
-use Rattle.walks.proofs.Entries.{found_in, get_here, get_missing, facts_here, facts_missing, many_parts, many_handles, handle_in, part_is, part-tree}
+use Rattle.walks.proofs.Entries.{found_in, get_here, facts_here, many_parts, many_handles, handle_in, part_is, part-tree}
 
 module _ (s : Store) (n bits : ℕ) where
   pub refused_first : (f : StoreFault) → found (trees s) n ≡ Err f → Err f ≡ first_flagged (trees s) n bits

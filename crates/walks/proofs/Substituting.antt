@@ -1,21 +1,18 @@
 -- The steps of a substitution: parts one after another, then the head over them; what the cache holds stays right.
-use Rattle.std.proofs.Common.{◌≡◌, ℕ, zero, suc, ◌+◌, ◌<◌, ◌≤◌, Bool, true, false, cond, ◌&&◌, eqb, List, [], ◌∷◌, ◌++◌, map, length, get_or, take, drop, set, Some, None, Ok, Err, Option as Maybe, Result, sym, refl, ap, ◌∙◌, subst, ⊎_elim, append_assoc, arith}
-use mathlib.Core.Option.{Option, none, some}
-use lib.Bits.{bit_and}
-use Rattle.std.proofs.lemmas.List.{length-map, length-take, length-take-le, length-set, get_or-take, get_or-map, get_or-set_same, get_or-set_other, take_more_set, map_push, drop_more, drop_all, append-nil}
-use Rattle.std.proofs.lemmas.Bool.{cases_Bool, cases_eq, eqb-true, ne_eqb, cond-true, cond-false}
+use Rattle.std.proofs.Common.{◌≡◌, ℕ, suc, ◌+◌, ◌<◌, ◌≤◌, Bool, true, false, cond, ◌&&◌, eqb, List, [], ◌∷◌, ◌++◌, length, get_or, take, drop, set, Some, Ok, Err, Result, sym, refl, ap, ◌∙◌, subst, ⊎_elim, append_assoc, arith}
+use Rattle.std.proofs.lemmas.List.{length-map, length-take-le, length-set, get_or-take, get_or-map, get_or-set_same, get_or-set_other, take_more_set, map_push, drop_more, drop_all, append-nil}
+use Rattle.std.proofs.lemmas.Bool.{cases_Bool, cases_eq, eqb-true, cond-true, cond-false}
 use Rattle.theory.specs.declared.words.ListSort.TheVariants.{Arguments}
 use Rattle.theory.specs.declared.words.Head.{Head}
 use Rattle.theory.specs.declared.words.Head.TheVariants.{List as AList}
 use Rattle.theory.specs.declared.words.StoreFault.{StoreFault}
 use Rattle.theory.specs.Faults.{Fault, from_store}
-use Rattle.theory.specs.Outcomes.{at, raised, answered, ◌>>=◌, StandsAt}
-use Rattle.theory.specs.Trees.{Tree, node, nil, parts, applies, assembled, seen, takes, wants, least, flags}
+use Rattle.theory.specs.Outcomes.{raised, answered, ◌>>=◌, StandsAt}
+use Rattle.theory.specs.Trees.{Tree, node, nil, parts, applies, assembled, seen, takes, wants}
 use Rattle.theory.specs.Store.{Contents, checked, put, add_node, Grown}
 use Rattle.theory.specs.Folds.{Folded, folded, FoldedAll, folded_all, fold_all, anywhere}
 use Rattle.theory.specs.Applying.{fill_leaf, fill}
 use Rattle.theory.proofs.Growth.{grown_same, grown-then}
-use Rattle.theory.proofs.Steps.{never_ok, ok_one}
 use Rattle.theory.proofs.Holding.{Put, put_ok, stays_at, below, read_at}
 use Rattle.maps.specs.Pairs.{Pair, found as cached}
 use Rattle.maps.proofs.Elements.{at_in}
@@ -186,7 +183,7 @@ module _ (c : Contents) (ns : List ℕ) (n : ℕ) (h : Head) (o : OverParts c.tr
             (λ (z : j ≡ k).
             ap (λ i. takes h i (seen (get_or e.trees (get_or (set xs k r) i 0) nil))) z
             ∙ ap (λ i. takes h k (seen (get_or e.trees i nil))) new
-            ∙ fill_serves vs (wants h k) t d (folded u tt e) own (accepted-takes c.trees h 0 o.handles k o.fit here_too))
+            ∙ fill_serves vs (wants h k) t d (folded u tt e) own (let y : k ≡ 0 + k = omega arith in ap (λ i. takes h i (seen t)) y ∙ accepted-takes c.trees h 0 o.handles k o.fit here_too))
             (λ (ne : j ≡ k → ⊥).
             let lk : j < k = omega arith in
             ap (λ i. takes h j (seen (get_or e.trees i nil))) (old j lk)

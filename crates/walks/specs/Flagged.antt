@@ -1,6 +1,6 @@
 -- The first leaf of a term, in walk order, that has one of some flags; and how high a term stands, which falls from a term to
 -- its parts.
-use Rattle.std.specs.Prelude.{ℕ, ◌+◌, ◌*◌, Bool, true, false, not, List, [], ◌∷◌, Some, None, Ok, Err, Option, Result, ◌==◌, bit_and}
+use Rattle.std.specs.Prelude.{ℕ, ◌+◌, ◌*◌, Bool, true, false, not, List, Some, None, Ok, Option, Result, ◌==◌, bit_and}
 use Rattle.theory.specs.declared.words.Leaf.{Leaf}
 use Rattle.theory.specs.declared.words.StoreFault.{StoreFault}
 use Rattle.theory.specs.Outcomes.{◌>>=◌}

@@ -9,7 +9,7 @@ use terms::Store;
 use theory::{Flags, Handle, Head, Leaf, Node, StoreFault};
 
 // The first leaf of a term, in walk order, that has one of the flags: refuses 1 for a handle that names nothing.
-#[cycle(first_flagged_first_in_parts)]
+#[cycle(flagged)]
 pub fn first_flagged(store: &Store, term: Handle, flags: Flags) -> Result<Option<Leaf>, StoreFault>
     ensures { result ≡ first_flagged (trees store.now) term flags.bits }
 {
@@ -23,7 +23,7 @@ pub fn first_flagged(store: &Store, term: Handle, flags: Flags) -> Result<Option
     }
 }
 
-#[cycle(first_flagged_first_in_parts)]
+#[cycle(flagged)]
 fn first_in_parts(
     store: &Store,
     term: Handle,

@@ -5,7 +5,6 @@
 
 mod fault;
 mod flagged;
-mod substitute;
 
 pub use fault::SubstituteFault;
 pub use flagged::first_flagged;

@@ -1,9 +1,9 @@
-use Rattle.std.proofs.Common.{Ok, Err, sym, refl, ap, ◌∙◌, arith}
+use Rattle.std.proofs.Common.{Ok, sym, ap, ◌∙◌, arith}
 use Rattle.std.proofs.lemmas.Result.{err_from_is_err_and}
 use Rattle.terms.specs.Means.{trees}
 use Rattle.walks.proofs.Entries.{facts_missing, get_missing}
 use Rattle.walks.proofs.Searching.{refused_first, none_here, leaf_here, part_never, part_lower, answer_never, found_here, go_on, none_left}
-use Rattle.walks.proofs.flagged.+first_flagged_first_in_parts.Goals as goal
+use Rattle.walks.proofs.flagged.+flagged.Goals as goal
 
 pub first_flagged-returns-in_err-facts : goal.first_flagged-returns-in_err-facts
 first_flagged-returns-in_err-facts t c =

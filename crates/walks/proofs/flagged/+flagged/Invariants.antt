@@ -3,7 +3,7 @@ use Rattle.theory.specs.Trees.{nil, parts}
 use Rattle.terms.specs.Means.{trees}
 use Rattle.walks.specs.Flagged.{flagged, rank}
 use Rattle.walks.proofs.Firsts.{first_among}
-use Rattle.walks.proofs.flagged.+first_flagged_first_in_parts.Given as goal
+use Rattle.walks.proofs.flagged.+flagged.Given as goal
 
 abbrev pub decreases-first_flagged : goal.decreases-first_flagged
 decreases-first_flagged l = 2 * rank (get_or (trees l.store.now) l.term nil) + 1
