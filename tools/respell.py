@@ -16,6 +16,8 @@ BY_HAND = {
     "Parts-held": "parts_held",
     "Tree-discrete": "tree_discrete",
     "h-region": "h_region",
+    # the port script spells this fact so
+    "Is_at": "IsAt",
 }
 
 
@@ -130,7 +132,9 @@ def table():
     }
     local = {w for w in lets(own) if "-" in w}
     words = {w for w in own | local if "-" in w.strip("-") and "◌" not in w and re.match(r"[A-Za-z]", w)}
-    return {w: spelled(w, known_functions, specs) for w in sorted(words)}
+    names = {w: spelled(w, known_functions, specs) for w in sorted(words)}
+    names.update(BY_HAND)
+    return names
 
 
 def respell(text, names, mark):

@@ -7,7 +7,7 @@ use Rattle.theory.specs.Trees.{Tree, nil, parts, height}
 use Rattle.theory.specs.Store.{handle, holds, used, has_room, with_tree, put}
 use Rattle.terms.specs.declared.store.Store.{Store}
 use Rattle.terms.specs.Memory.{Cell, tree_of}
-use Rattle.terms.specs.Chains.{Is_at}
+use Rattle.terms.specs.Chains.{IsAt}
 use Rattle.terms.specs.Means.{trees, means}
 use Rattle.terms.proofs.Cells.{Proper, length-held, own_tree}
 use Rattle.terms.proofs.Stands.{not_held, parts_many}
@@ -21,7 +21,7 @@ module _ (s : Store) (c : Cell) (proper : Proper (trees s) c) where
   size : length (trees s) ≡ s.len
   size = length-held (pool_of s) (entries_of s) ∙ length-entries s
 
-  pub put-held : (i : ℕ) → (i < length (entries_of s)) × Is_at (pool_of s) (entries_of s) c i → (Ok i, means s) ≡ answered (means s) (put (means s) (tree_of (trees s) c))
+  pub put-held : (i : ℕ) → (i < length (entries_of s)) × IsAt (pool_of s) (entries_of s) c i → (Ok i, means s) ≡ answered (means s) (put (means s) (tree_of (trees s) c))
   unfolding put
   put-held i h =
       let m = trees s in
@@ -31,7 +31,7 @@ module _ (s : Store) (c : Cell) (proper : Proper (trees s) c) where
       let yes : holds m t ≡ true = lt-ltb (handle m t) (length m) (omega arith) in
       rw (yes, own) refl
 
-  module _ (fresh : (k : ℕ) → k < length (entries_of s) → Is_at (pool_of s) (entries_of s) c k → ⊥) where
+  module _ (fresh : (k : ℕ) → k < length (entries_of s) → IsAt (pool_of s) (entries_of s) c k → ⊥) where
     no : holds (trees s) t ≡ false
     no = le-ltb (handle (trees s) t) (length (trees s)) (not_held (pool_of s) (entries_of s) _ (sound_of s) c proper fresh)
 

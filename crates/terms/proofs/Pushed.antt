@@ -7,7 +7,7 @@ use Rattle.terms.specs.declared.memory.entry.Entry.{Entry}
 use Rattle.terms.specs.declared.store.Store.{Store}
 use Rattle.terms.specs.Hash.{hashed}
 use Rattle.terms.specs.Memory.{count, cell, tree_of, held, fits}
-use Rattle.terms.specs.Chains.{Is_at}
+use Rattle.terms.specs.Chains.{IsAt}
 use Rattle.terms.specs.Means.{trees}
 use Rattle.terms.proofs.Stands.{Sound, sound_push, held-push}
 use Rattle.terms.proofs.Packed.{sound_of}
@@ -37,7 +37,7 @@ module _ (s : Store) (e : Entry) (ns : List ℕ) (more : s.len < s.limit)
   trees_pushed = held-push (pool_of s) (entries_of s) s.buckets.now (sound_of s) e ns (first ∙ sym (length_pool s)) many hash fit
 
   pub sound_pushed : (is : e.facts ≡ facts (tree_of (trees s) (cell e.node ns))) → e.facts.height ≤ 64 → count e.node ≤ 256
-      → ((k : ℕ) → k < length (entries_of s) → Is_at (pool_of s) (entries_of s) (cell e.node ns) k → ⊥)
+      → ((k : ℕ) → k < length (entries_of s) → IsAt (pool_of s) (entries_of s) (cell e.node ns) k → ⊥)
       → e.next ≡ get_or s.buckets.now (e.hash % length s.buckets.now) 0
       → Sound (pool_of s ++ ns) (entries_of s ++ e ∷ []) (set s.buckets.now (e.hash % length s.buckets.now) (s.len + 1))
   sound_pushed is high few fresh link =

@@ -8,7 +8,7 @@ use Rattle.theory.specs.Store.{handle, OneHandle, used}
 use Rattle.terms.specs.declared.memory.entry.Entry.{Entry}
 use Rattle.terms.specs.Hash.{hashed}
 use Rattle.terms.specs.Memory.{Cell, count, cell, cell_of, vacant, tree_of, grown, held, Within, fits, handles_at, Kept, Placed, Fitted, Known, Deep, Low}
-use Rattle.terms.specs.Chains.{newest, on_bucket, Heads, Nexts, Is_at}
+use Rattle.terms.specs.Chains.{newest, on_bucket, Heads, Nexts, IsAt}
 use Rattle.terms.proofs.Places.{handle-hit, handle_more, handle_new}
 use Rattle.terms.proofs.Cells.{Proper, cells, cell_more, cells_more, grown-push, length-held, own_proper, own_tree, same_cell, parts_of}
 use Rattle.terms.proofs.Links.{last_or, heads_push, nexts_push}
@@ -34,7 +34,7 @@ pub parts_many : (m : List Tree) (c : Cell) → Proper m c → length (parts (tr
 parts_many m c p = ap length (parts_of m c p) ∙ length-map c.handles (λ k. get_or m k nil)
 
 -- a tree whose cell stands nowhere is not held
-pub not_held : (pool : List ℕ) (es : List Entry) (hd : List ℕ) (s : Sound pool es hd) (c : Cell) → Proper (held pool es) c → ((k : ℕ) → k < length es → Is_at pool es c k → ⊥) → length (held pool es) ≤ handle (held pool es) (tree_of (held pool es) c)
+pub not_held : (pool : List ℕ) (es : List Entry) (hd : List ℕ) (s : Sound pool es hd) (c : Cell) → Proper (held pool es) c → ((k : ℕ) → k < length es → IsAt pool es c k → ⊥) → length (held pool es) ≤ handle (held pool es) (tree_of (held pool es) c)
 not_held pool es hd s c proper fresh =
     let m = held pool es in
     let t = tree_of m c in
@@ -127,7 +127,7 @@ module _ (pool : List ℕ) (es : List Entry) (hd : List ℕ) (s : Sound pool es 
       ∙ ap (λ (c : Cell). fits (held pool es) c.form c.handles) (ap (cell_of (pool ++ ns)) new_entry ∙ own_cell) ∙ fit))
 
   module _ (is : e.facts ≡ facts (tree_of (held pool es) (cell e.node ns))) (high : e.facts.height ≤ 64) (few : count e.node ≤ 256)
-      (fresh : (k : ℕ) → k < length es → Is_at pool es (cell e.node ns) k → ⊥) where
+      (fresh : (k : ℕ) → k < length es → IsAt pool es (cell e.node ns) k → ⊥) where
     known' : Known (pool ++ ns) (es ++ e ∷ [])
     known' =
         subst (λ m. (i : ℕ) → i < length (es ++ e ∷ []) → ((get_or (es ++ e ∷ []) i vacant).facts.height ≡ height (get_or m i nil)) × ((get_or (es ++ e ∷ []) i vacant).facts.flags.bits ≡ flags (get_or m i nil))) (sym held-push)

@@ -23,10 +23,10 @@ abbrev pub Nexts : List Entry → ℕ → Type 0
 Nexts es size = (i : ℕ) → i < length es → (get_or es i vacant).next ≡ newest (on_bucket es size (bucket es size i)) i
 
 -- the entry at a place has that form over those parts
-abbrev pub Is_at : List ℕ → List Entry → Cell → ℕ → Type 0
-Is_at pool es c k = cell_of pool (slice_index_or es k vacant) ≡ c
+abbrev pub IsAt : List ℕ → List Entry → Cell → ℕ → Type 0
+IsAt pool es c k = cell_of pool (slice_index_or es k vacant) ≡ c
 
 -- what a search for a cell answers: its place, or that it is nowhere
 abbrev pub Sought : List ℕ → List Entry → Cell → Option ℕ → Type 0
-Sought pool es c (Some i) = (i < length es) × Is_at pool es c i
-Sought pool es c None = (k : ℕ) → k < length es → Is_at pool es c k → ⊥
+Sought pool es c (Some i) = (i < length es) × IsAt pool es c i
+Sought pool es c None = (k : ℕ) → k < length es → IsAt pool es c k → ⊥
