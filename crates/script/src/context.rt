@@ -1,5 +1,5 @@
 // A context beside its store: a host, and the questions that were asked of it.
-ghost use Rattle.std.specs.Prelude.{◌≡◌, ltb, [], ◌∷◌, ◌++◌, is_some, if◌then◌else◌, vec_len, OnErr, OnOk, nat_le, nat_lt};
+ghost use Rattle.std.specs.Prelude.{◌≡◌, [], ◌∷◌, ◌++◌, is_some, if◌then◌else◌, vec_len, OnErr, OnOk, nat_le, nat_lt};
 ghost use Rattle.host.specs.Hosts.{Fresh};
 ghost use Rattle.host.specs.declared.fault.HostFault.TheVariants.{Store as in_store, UnknownUniverse as unopened, LogFull as no_place};
 
@@ -119,7 +119,7 @@ impl Context {
 
     // Where the store refuses the term of a variable: the host's own refusals come first.
     fn before_store(&self, universe: Universe, fault: StoreFault) -> HostFault
-        ensures { result ≡ (if ltb self.now.host.universes universe then unopened universe else (if nat_le self.now.tally.places self.now.tally.events then no_place else in_store fault)) }
+        ensures { result ≡ (if nat_lt self.now.host.universes universe then unopened universe else (if nat_le self.now.tally.places self.now.tally.events then no_place else in_store fault)) }
     {
         if universe > self.host.universe() {
             HostFault::UnknownUniverse(universe)

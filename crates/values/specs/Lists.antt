@@ -1,10 +1,6 @@
--- Lists of known length, and a list of roots behind one more.
-use Rattle.std.specs.Prelude.{◌≡◌, ℕ, zero, suc, ◌-◌, ◌<◌, ◌≤◌, true, false, List, [], ◌∷◌, length, Ok, Err, Result, nat_lt, slice_index, refl}
-use Rattle.std.proofs.Common.{ap, ◌∙◌, ⊎_elim, arith}
-use Rattle.std.proofs.lemmas.Bool.{cases_lt, lt-ltb, le-ltb}
-use Rattle.theory.specs.declared.words.StoreFault.{StoreFault}
-use Rattle.theory.specs.declared.words.StoreFault.TheVariants.{BadPart}
-use Rattle.values.specs.Roots.{root_at}
+-- Lists of known length: what the laws of foldable values cite.
+use Rattle.std.specs.Prelude.{◌≡◌, ℕ, List, [], ◌∷◌, length, slice_index, refl}
+use Rattle.std.proofs.Common.{arith}
 
 pub one_element : (rs : List ℕ) → length rs ≡ 1 → slice_index rs 0 ∷ [] ≡ rs
 one_element [] e = absurd (omega arith)
@@ -16,24 +12,3 @@ two_elements [] e = absurd (omega arith)
 two_elements (r ∷ []) e = absurd (omega arith)
 two_elements (r ∷ q ∷ []) e = refl
 two_elements (r ∷ q ∷ p ∷ rs) e = absurd (omega arith)
-
--- the answer at the next place
-abbrev pub moved : ℕ → Result ℕ StoreFault → Result ℕ StoreFault
-moved k (Ok t) = Ok t
-moved k (Err f) = Err (BadPart k)
-
-pub root_behind : (v : ℕ) (rs : List ℕ) (k : ℕ) → 0 < k → moved k (root_at rs (k - 1)) ≡ root_at (v ∷ rs) k
-root_behind v rs zero l = absurd (omega arith)
-root_behind v rs (suc k) l =
-    let e : suc k - 1 ≡ k = omega arith in
-    ap (λ j. moved (suc k) (root_at rs j)) e
-    ∙ ⊎_elim
-    (λ (h : k < length rs).
-    let a : nat_lt k (length rs) ≡ true = lt-ltb k (length rs) h in
-    let b : nat_lt (suc k) (suc (length rs)) ≡ true = lt-ltb (suc k) (suc (length rs)) (omega arith) in
-    rw (a, b) refl)
-    (λ (h : length rs ≤ k).
-    let a : nat_lt k (length rs) ≡ false = le-ltb k (length rs) h in
-    let b : nat_lt (suc k) (suc (length rs)) ≡ false = le-ltb (suc k) (suc (length rs)) (omega arith) in
-    rw (a, b) refl)
-    (cases_lt k (length rs))

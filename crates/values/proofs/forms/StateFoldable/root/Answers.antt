@@ -1,5 +1,5 @@
 use Rattle.std.proofs.Common.{ap, ◌∙◌, arith}
-use Rattle.values.specs.Lists.{moved, root_behind}
+use Rattle.values.proofs.Lists.{moved, root_behind}
 use Rattle.values.proofs.forms.StateFoldable.root.Goals as goal
 
 pub returns-in-Ok : goal.returns-in-Ok
