@@ -126,7 +126,6 @@ def tail(parts, known):
 
 def table():
     own, everywhere, specs = survey()
-    _, _, foreign = set(), set(), set()
     known_functions = {w.replace("-", "_") for w in specs if not w[:1].isupper()} | {
         "length", "take", "drop", "map", "set", "append", "get_or", "cond", "min", "max",
     }
