@@ -11,7 +11,6 @@ TOKEN = re.compile(r"[^" + BREAKS + r"]+(?:\.[^" + BREAKS + r"]+)*")
 DEFINES = re.compile(r"\s*(?:pub |abbrev |unfoldable |record |data )*([^" + BREAKS + r"]+)((?: [^" + BREAKS + r"]+)*)\s*(?::|\(|\{|$)")
 ALIAS = re.compile(r"\bas ([^" + BREAKS + r"]+)")
 IMPORT = re.compile(r"^\s*(?:ghost )?use (?:Rattle\.std|Rattle\.borrow|borrow|lib|native|Prim)\b")
-MADE = re.compile(r": (?:\(?\w+ : )?.*\bgoal\.")
 BY_HAND = {
     "Parts-held": "parts_held",
     "Tree-discrete": "tree_discrete",
@@ -72,7 +71,7 @@ def survey():
     return own - foreign, everywhere | foreign, specs
 
 
-def lets(own):
+def lets():
     """names that are bound in a term by let, λ or a pattern, or taken as a parameter"""
     more = set()
     binder = re.compile(r"(?:let |λ \(?|\(|\{|, )([^" + BREAKS + r"]+)((?: [^" + BREAKS + r"]+)*) (?::|=)")
@@ -129,7 +128,7 @@ def table():
     known_functions = {w.replace("-", "_") for w in specs if not w[:1].isupper()} | {
         "length", "take", "drop", "map", "set", "append", "get_or", "cond", "min", "max",
     }
-    local = {w for w in lets(own) if "-" in w}
+    local = {w for w in lets() if "-" in w}
     words = {w for w in own | local if "-" in w.strip("-") and "◌" not in w and re.match(r"[A-Za-z]", w)}
     names = {w: spelled(w, known_functions, specs) for w in sorted(words)}
     names.update(BY_HAND)
