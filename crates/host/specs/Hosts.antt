@@ -2,8 +2,8 @@
 use Rattle.std.specs.Prelude.{◌≡◌, ℕ, ◌+◌, ◌<◌, min, max, Bool, true, false, cond, [], Ok, Err, vec_items, vec_len, Result, ◌==◌, nat_lt, slice_index}
 use Rattle.host.specs.declared.fault.HostFault.{HostFault}
 use Rattle.host.specs.declared.fault.HostFault.TheVariants.{UnknownVariable, UnknownUniverse, LogFull}
-use Rattle.host.specs.declared.fault.VariableSort.{VariableSort}
-use Rattle.host.specs.declared.fault.VariableSort.TheVariants.{Ty, Int, Float, Region, Const}
+use Rattle.theory.specs.declared.words.VariableSort.{VariableSort}
+use Rattle.theory.specs.declared.words.VariableSort.TheVariants.{Ty, Int, Float, Region, Const}
 use Rattle.host.specs.declared.plain.PlainHost.{PlainHost}
 
 -- how many variables of a sort there are

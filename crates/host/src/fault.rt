@@ -3,17 +3,7 @@ ghost use Rattle.std.specs.Prelude.{◌≡◌};
 ghost use Rattle.host.specs.Numbers.{host_number};
 ghost use Rattle.host.specs.declared.fault.HostFault.TheVariants.{Store as in_store};
 
-use theory::{StoreFault, Universe};
-
-// The sorts of inference variables. The variables of each are numbered from 0.
-#[derive(Clone, Copy, PartialEq, Eq)]
-pub enum VariableSort {
-    Ty,
-    Int,
-    Float,
-    Region,
-    Const,
-}
+use theory::{StoreFault, Universe, VariableSort};
 
 #[derive(Clone, Copy)]
 pub enum HostFault {
@@ -33,11 +23,7 @@ impl HostFault {
         ensures { result ≡ host_number self }
     {
         match self {
-            HostFault::Store(fault) => match fault {
-                StoreFault::NoSuch(_) | StoreFault::BadPart(_) => 1,
-                StoreFault::Full => 2,
-                StoreFault::TooHigh | StoreFault::TooLong => 3,
-            },
+            HostFault::Store(fault) => fault.number(),
             HostFault::UnknownVariable(_, _) | HostFault::UnknownUniverse(_) => 4,
             HostFault::LogFull => 5,
         }

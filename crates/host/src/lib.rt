@@ -4,5 +4,5 @@
 mod fault;
 mod plain;
 
-pub use fault::{HostFault, VariableSort};
+pub use fault::HostFault;
 pub use plain::PlainHost;

@@ -3,8 +3,8 @@ use Rattle.std.specs.Prelude.{◌≡◌, ℕ, ◌+◌, ◌≤◌}
 use Rattle.theory.specs.declared.words.VarSort.TheVariants.{Ty as v_ty, Int as v_int, Float as v_float, Const as v_const}
 use Rattle.theory.specs.declared.words.Leaf.{Leaf}
 use Rattle.theory.specs.declared.words.Leaf.TheVariants.{Variable, RegionVariable}
-use Rattle.host.specs.declared.fault.VariableSort.{VariableSort}
-use Rattle.host.specs.declared.fault.VariableSort.TheVariants.{Ty, Int, Float, Region, Const}
+use Rattle.theory.specs.declared.words.VariableSort.{VariableSort}
+use Rattle.theory.specs.declared.words.VariableSort.TheVariants.{Ty, Int, Float, Region, Const}
 use Rattle.host.specs.Hosts.{one_more}
 use Rattle.script.specs.declared.tally.Tally.{Tally}
 

@@ -4,11 +4,11 @@ ghost use Rattle.host.specs.Hosts.{Fresh};
 ghost use Rattle.host.specs.declared.fault.HostFault.TheVariants.{Store as in_store, UnknownUniverse as unopened, LogFull as no_place};
 
 use crate::tally::Tally;
-use host::{HostFault, PlainHost, VariableSort};
+use host::{HostFault, PlainHost};
 use solver::{CallFault, CanonicalGoal, Goal, Question, Scratch};
 use std::alloc::{AllocError, Global};
 use terms::Store;
-use theory::{Handle, StoreFault, Universe};
+use theory::{Handle, StoreFault, Universe, VariableSort};
 
 // A goal that was accepted: its question and its canonical form.
 #[derive(Drop)]

@@ -3,13 +3,12 @@ ghost use Rattle.std.specs.Prelude.{◌≡◌, ◌++◌, IfOk, string_bytes, cod
 
 use crate::compare;
 use crate::context::Context;
-use host::VariableSort;
 use solver::{CanonicalGoal, Goal, Scratch};
 use std::alloc::{AllocError, Global};
 use std::fmt::Write;
 use terms::Store;
 use text::{Command, Complaint, Printer, Reader, Trouble};
-use theory::Universe;
+use theory::{Universe, VariableSort};
 
 // The store stands beside the session, since its memory is the caller's.
 #[derive(Drop)]

@@ -2,8 +2,7 @@
 ghost use Rattle.std.specs.Prelude.{◌≡◌, min, nat_le};
 ghost use Rattle.script.specs.Counts.{variable, next_number, Small, OneEvent, OneVariable};
 
-use host::VariableSort;
-use theory::{Leaf, VarSort};
+use theory::{Leaf, VarSort, VariableSort};
 
 // Places that a log has at most.
 const MOST_PLACES: u32 = 65_535;

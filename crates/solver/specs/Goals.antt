@@ -12,8 +12,8 @@ use Rattle.theory.specs.declared.words.Kind.TheVariants.{Ty as KTy, Int as KInt,
 use Rattle.host.specs.Hosts.{count, rooted}
 use Rattle.host.specs.declared.fault.HostFault.{HostFault}
 use Rattle.host.specs.declared.fault.HostFault.TheVariants.{UnknownVariable}
-use Rattle.host.specs.declared.fault.VariableSort.{VariableSort}
-use Rattle.host.specs.declared.fault.VariableSort.TheVariants.{Ty as h_ty, Int as h_int, Float as h_float, Region as h_region, Const as h_const}
+use Rattle.theory.specs.declared.words.VariableSort.{VariableSort}
+use Rattle.theory.specs.declared.words.VariableSort.TheVariants.{Ty as h_ty, Int as h_int, Float as h_float, Region as h_region, Const as h_const}
 use Rattle.host.specs.declared.plain.PlainHost.{PlainHost}
 use Rattle.solver.specs.Names.{first_where, is_leaf, in_class}
 use Rattle.solver.specs.declared.canonical.CallFault.{CallFault}

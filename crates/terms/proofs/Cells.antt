@@ -7,7 +7,8 @@ use Rattle.theory.specs.declared.words.Node.TheVariants.{Leaf as ALeaf, Over}
 use Rattle.theory.specs.Trees.{Tree, nil, parts, seen}
 use Rattle.theory.specs.Store.{handle, OneHandle}
 use Rattle.terms.specs.declared.memory.entry.Entry.{Entry}
-use Rattle.terms.specs.Memory.{Cell, count, cell, cell_of, vacant, formed, tree_of, grown, held, Within, fits, Kept, Fitted}
+use Rattle.terms.specs.Memory.{Cell, cell, cell_of, vacant, formed, tree_of, grown, held, Within, fits, Kept, Fitted}
+use Rattle.theory.specs.Trees.{part_count as count}
 use Rattle.terms.proofs.Places.{Below, trees-at, trees_at_more, handles-back}
 use Rattle.terms.proofs.Fits.{accepted_below, accepted_more, parts-assembled, seen-assembled}
 

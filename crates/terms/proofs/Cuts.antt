@@ -5,7 +5,8 @@ use Rattle.theory.specs.Trees.{Tree, nil, parts, height, flags, outer}
 use Rattle.theory.specs.Store.{handle, OneHandle, used}
 use Rattle.terms.specs.declared.memory.entry.Entry.{Entry}
 use Rattle.terms.specs.Hash.{hashed}
-use Rattle.terms.specs.Memory.{Cell, count, cell_of, vacant, tree_of, grown, held, Within, fits, handles_at}
+use Rattle.terms.specs.Memory.{Cell, cell_of, vacant, tree_of, grown, held, Within, fits, handles_at}
+use Rattle.theory.specs.Trees.{part_count as count}
 use Rattle.terms.specs.Chains.{bucket, Nexts}
 use Rattle.terms.proofs.Places.{handle-front}
 use Rattle.terms.proofs.Cells.{cells, cell_more, cells_more, grown-front, length-held, own_proper, own_tree}

@@ -152,13 +152,13 @@ one_list m h [] a e =
 one_list m h (n ∷ []) a e =
     let p = first_accepted m h 0 n [] e in
     let t = get_or m n nil in
-    let w : takes h 0 (seen t) ≡ eqb 8 (sort_code (node_sort (seen t))) = ap (λ w. Rattle.theory.specs.Trees.meets w (seen t)) (applies-wants h 0 a) in
+    let w : takes h 0 (seen t) ≡ eqb 8 (sort_code (node_sort (seen t))) = ap (λ w. Rattle.theory.specs.Trees.served w (seen t)) (applies-wants h 0 a) in
     (under t, ap (λ u. u ∷ []) (list_tree t (eqb-true 8 _ (sym w ∙ p.2))))
 one_list m h (n ∷ k ∷ ns) a e =
     let p = first_accepted m h 0 n (k ∷ ns) e in
     let q = first_accepted m h 1 k ns p.3 in
     let t = get_or m k nil in
-    absurd (both_ways (takes h 1 (seen t)) (ap (λ w. Rattle.theory.specs.Trees.meets w (seen t)) (applies-wants h 1 a)) q.2)
+    absurd (both_ways (takes h 1 (seen t)) (ap (λ w. Rattle.theory.specs.Trees.served w (seen t)) (applies-wants h 1 a)) q.2)
 
 pub items-row : (ts : List Tree) → items (row ts) ≡ ts
 items-row [] = refl

@@ -6,7 +6,8 @@ use Rattle.theory.specs.Trees.{facts}
 use Rattle.terms.specs.declared.memory.entry.Entry.{Entry}
 use Rattle.terms.specs.declared.store.Store.{Store}
 use Rattle.terms.specs.Hash.{hashed}
-use Rattle.terms.specs.Memory.{count, cell, tree_of, held, fits}
+use Rattle.terms.specs.Memory.{cell, tree_of, held, fits}
+use Rattle.theory.specs.Trees.{part_count as count}
 use Rattle.terms.specs.Chains.{IsAt}
 use Rattle.terms.specs.Means.{trees}
 use Rattle.terms.proofs.Stands.{Sound, sound_push, held-push}

@@ -11,7 +11,8 @@ use Rattle.theory.specs.Trees.{Tree, nil, tree?, parts, seen, node_sort, facts, 
 use Rattle.theory.specs.Store.{found, handle, get, part, sort_at, facts_at, OneHandle}
 use Rattle.terms.specs.declared.memory.entry.Entry.{Entry}
 use Rattle.terms.specs.declared.store.Store.{Store}
-use Rattle.terms.specs.Memory.{count, vacant, handles_at}
+use Rattle.terms.specs.Memory.{vacant, handles_at}
+use Rattle.theory.specs.Trees.{part_count as count}
 use Rattle.terms.specs.Means.{trees}
 use Rattle.terms.specs.Reads.{same_at}
 use Rattle.terms.proofs.Places.{at_in, at_out, trees-at, below_at}

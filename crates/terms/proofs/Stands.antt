@@ -7,7 +7,8 @@ use Rattle.theory.specs.Trees.{Tree, nil, parts, height, flags, outer, facts}
 use Rattle.theory.specs.Store.{handle, OneHandle, used}
 use Rattle.terms.specs.declared.memory.entry.Entry.{Entry}
 use Rattle.terms.specs.Hash.{hashed}
-use Rattle.terms.specs.Memory.{Cell, count, cell, cell_of, vacant, tree_of, grown, held, Within, fits, handles_at, Kept, Placed, Fitted, Known, Deep, Low}
+use Rattle.terms.specs.Memory.{Cell, cell, cell_of, vacant, tree_of, grown, held, Within, fits, handles_at, Kept, Placed, Fitted, Known, Deep, Low}
+use Rattle.theory.specs.Trees.{part_count as count}
 use Rattle.terms.specs.Chains.{newest, on_bucket, Heads, Nexts, IsAt}
 use Rattle.terms.proofs.Places.{handle-hit, handle_more, handle_new}
 use Rattle.terms.proofs.Cells.{Proper, cells, cell_more, cells_more, grown-push, length-held, own_proper, own_tree, same_cell, parts_of}

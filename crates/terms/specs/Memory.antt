@@ -7,15 +7,10 @@ use Rattle.theory.specs.declared.words.Node.{Node}
 use Rattle.theory.specs.declared.words.Node.TheVariants.{Leaf as ALeaf, Over}
 use Rattle.theory.specs.declared.words.StoreFault.{StoreFault}
 use Rattle.theory.specs.Limits.{highest, longest}
-use Rattle.theory.specs.Trees.{Tree, leaf, nil, assembled, height, flags, outer}
+use Rattle.theory.specs.Trees.{Tree, leaf, nil, part_count as count, assembled, height, flags, outer}
 use Rattle.theory.specs.Store.{checked, used}
 use Rattle.terms.specs.declared.memory.entry.Entry.{Entry}
 use Rattle.terms.specs.Hash.{hashed}
-
--- how many parts an entry has
-abbrev pub count : Node → ℕ
-count (ALeaf x) = 0
-count (Over h n) = n
 
 -- a form over the handles of its parts
 pub record Cell : Type 0 where

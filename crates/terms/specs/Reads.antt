@@ -7,7 +7,8 @@ use Rattle.theory.specs.Outcomes.{◌>>=◌, test}
 use Rattle.theory.specs.Trees.{Tree, tree?, node_sort}
 use Rattle.theory.specs.Store.{found, get, part, sort_at, facts_at}
 use Rattle.terms.specs.declared.memory.entry.Entry.{Entry}
-use Rattle.terms.specs.Memory.{vacant, count}
+use Rattle.terms.specs.Memory.{vacant}
+use Rattle.theory.specs.Trees.{part_count as count}
 
 abbrev pub ReadAt : List Entry → ℕ → Result Entry StoreFault → Type 0
 ReadAt es n (Ok e) = (n < length es) × (e ≡ slice_index_or es n vacant)

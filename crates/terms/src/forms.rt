@@ -2,92 +2,28 @@
 ghost use Rattle.std.specs.Prelude.{◌≡◌, ℕ, ◌≤◌};
 ghost use Rattle.terms.specs.Survey.{beside, topped};
 ghost use Rattle.theory.specs.Limits.{highest};
-ghost use Rattle.theory.specs.Trees.{leaf, var_sort, leaf_sort, head_sort, node_sort, element, only, both, wants as wanted, least, takes, weight, opens, facts, leaf_flags, reach, var_flags, free, is_argument, is_alias, same_sort};
+ghost use Rattle.theory.specs.Trees.{leaf, only, both, wants as wanted, least, takes, weight, opens, facts, leaf_flags, reach, var_flags, free, is_argument, is_alias, same_sort};
 
 use theory::{ArgSort, Facts, Flags, Head, Leaf, ListSort, Node, Sort, VarSort, Want};
 
-fn variable_sort(sort: VarSort) -> ArgSort
-    ensures { result ≡ var_sort sort }
-{
-    match sort {
-        VarSort::Ty => ArgSort::Ty,
-        VarSort::Int => ArgSort::Ty,
-        VarSort::Float => ArgSort::Ty,
-        VarSort::Const => ArgSort::Const,
-    }
-}
-
-fn sort_of_leaf(leaf: Leaf) -> Sort
-    ensures { result ≡ leaf_sort leaf }
-{
-    match leaf {
-        Leaf::Variable(s, _) => Sort::Argument(variable_sort(s)),
-        Leaf::Parameter(a, _) => Sort::Argument(a),
-        Leaf::Placeholder(a, _, _) => Sort::Argument(a),
-        Leaf::Bound(a, _, _) => Sort::Argument(a),
-        Leaf::Canonical(a, _) => Sort::Argument(a),
-        Leaf::Error(a) => Sort::Argument(a),
-        Leaf::RegionVariable(_) | Leaf::LateParameter(_) => Sort::Argument(ArgSort::Region),
-        Leaf::Static | Leaf::Erased => Sort::Argument(ArgSort::Region),
-        Leaf::Kind(_) => Sort::Kind,
-    }
-}
-
-fn sort_of_head(head: Head) -> Sort
-    ensures { result ≡ head_sort head }
-{
-    match head {
-        Head::Constructor(_) | Head::Alias(_) | Head::Function(_) => Sort::Argument(ArgSort::Ty),
-        Head::Unevaluated(_) | Head::Value(_) => Sort::Argument(ArgSort::Const),
-        Head::Predicate(_, _) => Sort::Predicate,
-        Head::OpaquePair => Sort::OpaquePair,
-        Head::Goal => Sort::Goal,
-        Head::Outlives(_) | Head::Equal(_) => Sort::Constraint,
-        Head::List(s) => Sort::List(s),
-    }
-}
-
-// The sort of an entry.
-pub fn sort_of(node: Node) -> Sort
-    ensures { result ≡ node_sort node }
-{
-    match node {
-        Node::Leaf(leaf) => sort_of_leaf(leaf),
-        Node::Over(head, _) => sort_of_head(head),
-    }
-}
-
-fn element_of(list: ListSort) -> Want
-    ensures { result ≡ element list }
-{
-    match list {
-        ListSort::Arguments => Want::Argument,
-        ListSort::Environment => Want::Of(Sort::Predicate),
-        ListSort::OpaquePairs => Want::Of(Sort::OpaquePair),
-        ListSort::Goals => Want::Of(Sort::Goal),
-        ListSort::Constraints => Want::Of(Sort::Constraint),
-        ListSort::Kinds => Want::Of(Sort::Kind),
-    }
-}
-
-fn one_part(want: Want, place: usize) -> Want
+fn one_part(want: Want, place: usize) -> Option<Want>
     ensures { result ≡ only want place }
 {
-    if place == 0 { want } else { Want::Nothing }
+    if place == 0 { Some(want) } else { None }
 }
 
-fn two_parts(first: Want, second: Want, place: usize) -> Want
+fn two_parts(first: Want, second: Want, place: usize) -> Option<Want>
     ensures { result ≡ both first second place }
 {
     match place {
-        0 => first,
-        1 => second,
-        _ => Want::Nothing,
+        0 => Some(first),
+        1 => Some(second),
+        _ => None,
     }
 }
 
-// What the head takes at the place.
-fn wants(head: Head, place: usize) -> Want
+// What the head takes at the place, or none where it has no such place.
+fn wants(head: Head, place: usize) -> Option<Want>
     ensures { result ≡ wanted head place }
 {
     let list = Want::Of(Sort::List(ListSort::Arguments));
@@ -105,7 +41,7 @@ fn wants(head: Head, place: usize) -> Want
         ),
         Head::Outlives(_) => two_parts(Want::Argument, region, place),
         Head::Equal(_) => two_parts(region, region, place),
-        Head::List(s) => element_of(s),
+        Head::List(s) => Some(s.element()),
     }
 }
 
@@ -124,19 +60,13 @@ pub fn least_parts(head: Head) -> usize
 fn is_argument_sort(sort: Sort) -> bool
     ensures { result ≡ is_argument sort }
 {
-    match sort {
-        Sort::Argument(_) => true,
-        _ => false,
-    }
+    matches!(sort, Sort::Argument(_))
 }
 
 fn is_alias_node(node: Node) -> bool
     ensures { result ≡ is_alias node }
 {
-    match node {
-        Node::Over(Head::Alias(_), _) => true,
-        _ => false,
-    }
+    matches!(node, Node::Over(Head::Alias(_), _))
 }
 
 fn is_same_sort(a: Sort, b: Sort) -> bool
@@ -150,10 +80,10 @@ pub fn takes_part(head: Head, place: usize, part: Node) -> bool
     ensures { result ≡ takes head place part }
 {
     match wants(head, place) {
-        Want::Nothing => false,
-        Want::Argument => is_argument_sort(sort_of(part)),
-        Want::Alias => is_alias_node(part),
-        Want::Of(sort) => is_same_sort(sort, sort_of(part)),
+        None => false,
+        Some(Want::Argument) => is_argument_sort(part.sort()),
+        Some(Want::Alias) => is_alias_node(part),
+        Some(Want::Of(sort)) => is_same_sort(sort, part.sort()),
     }
 }
 
@@ -244,9 +174,7 @@ pub fn join_facts(a: Facts, b: Facts) -> Facts
 {
     Facts {
         height: a.height.max(b.height),
-        flags: Flags {
-            bits: a.flags.bits | b.flags.bits,
-        },
+        flags: a.flags.union(b.flags),
         outer: a.outer.max(b.outer),
     }
 }

@@ -1,7 +1,8 @@
 // One entry of a store's memory, and how the hash index finds one.
 ghost use Rattle.std.specs.Prelude.{◌≡◌, ◌+◌, ◌<◌, ◌≤◌, length, Decides};
 ghost use Rattle.terms.specs.Hash.{hashed};
-ghost use Rattle.terms.specs.Memory.{count, cell_of, cell, Kept};
+ghost use Rattle.terms.specs.Memory.{cell_of, cell, Kept};
+ghost use Rattle.theory.specs.Trees.{part_count as count};
 ghost use Rattle.terms.specs.Chains.{Heads, Nexts, Sought};
 
 use theory::{Handle, Node};
@@ -30,15 +31,6 @@ fn is_same_parts(a: &[Handle], b: &[Handle]) -> bool
     true
 }
 
-pub fn parts_of(e: Entry) -> usize
-    ensures { result ≡ count e.node }
-{
-    match e.node {
-        Node::Leaf(_) => 0,
-        Node::Over(_, n) => n,
-    }
-}
-
 // Whether the entry is of this form, over these parts.
 fn is_entry(e: Entry, items: &[Handle], node: Node, parts: &[Handle]) -> bool
     requires { e.first + count e.node ≤ length items.now }
@@ -48,7 +40,7 @@ fn is_entry(e: Entry, items: &[Handle], node: Node, parts: &[Handle]) -> bool
         return false;
     }
     let first = e.first as usize;
-    is_same_parts(&items[first..first + parts_of(e)], parts)
+    is_same_parts(&items[first..first + e.node.count()], parts)
 }
 
 // The entry of this form over these parts, by the chain of its hash's bucket.

@@ -1,10 +1,8 @@
 // The grammar: the forms that stand in parentheses, the commands, and what each takes at each of its places.
 ghost use Rattle.std.specs.Prelude.{◌≡◌, ◌≤◌};
-ghost use Rattle.theory.specs.Trees.{leaf_sort};
 ghost use Rattle.text.specs.Forms.{form_sort};
 
-use host::VariableSort;
-use theory::{ArgSort, Leaf, ListSort, Sort, VarSort, Want};
+use theory::{ArgSort, ListSort, Sort, VariableSort, Want};
 
 #[derive(Clone, Copy, PartialEq, Eq)]
 pub enum Verb {
@@ -200,17 +198,6 @@ fn numbers_then(numbers: usize, index: usize, want: Want) -> Place {
     }
 }
 
-fn list_want(sort: ListSort) -> Want {
-    match sort {
-        ListSort::Arguments => Want::Argument,
-        ListSort::Environment => Want::Of(Sort::Predicate),
-        ListSort::OpaquePairs => Want::Of(Sort::OpaquePair),
-        ListSort::Goals => Want::Of(Sort::Goal),
-        ListSort::Constraints => Want::Of(Sort::Constraint),
-        ListSort::Kinds => Want::Of(Sort::Kind),
-    }
-}
-
 fn line_place(verb: Verb, index: usize) -> Place {
     match verb {
         Verb::New | Verb::Universe => Place::Nothing,
@@ -230,7 +217,7 @@ fn form_place(form: Form, index: usize) -> Place {
             Want::Argument,
         ),
         Form::Predicate => numbers_then(2, index, Want::Argument),
-        Form::List(sort) => Place::Term(list_want(sort)),
+        Form::List(sort) => Place::Term(sort.element()),
         Form::Value => among(&[TYPE, VALUE], index),
         Form::Parameter(_) | Form::LateParameter => among(&[NUMBER], index),
         Form::Bound(_) => among(&[NUMBER, NUMBER], index),
@@ -306,24 +293,6 @@ pub fn is_alias(form: Form) -> bool {
     match form {
         Form::Alias => true,
         _ => false,
-    }
-}
-
-// The sort of a leaf.
-pub fn leaf_sort(leaf: Leaf) -> Sort
-    ensures { result ≡ leaf_sort leaf }
-{
-    match leaf {
-        Leaf::Variable(VarSort::Const, _) => Sort::Argument(ArgSort::Const),
-        Leaf::Variable(_, _) => Sort::Argument(ArgSort::Ty),
-        Leaf::Parameter(sort, _)
-        | Leaf::Bound(sort, _, _)
-        | Leaf::Canonical(sort, _)
-        | Leaf::Error(sort) => Sort::Argument(sort),
-        Leaf::Placeholder(sort, _, _) => Sort::Argument(sort),
-        Leaf::RegionVariable(_) | Leaf::LateParameter(_) | Leaf::Static | Leaf::Erased =>
-            Sort::Argument(ArgSort::Region),
-        Leaf::Kind(_) => Sort::Kind,
     }
 }
 

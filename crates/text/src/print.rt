@@ -3,10 +3,9 @@ ghost use Rattle.std.specs.Prelude.{◌≡◌};
 ghost use Rattle.theory.specs.Trees.{applies};
 
 use crate::trouble::Trouble;
-use host::VariableSort;
 use std::alloc::{AllocError, Global};
 use terms::Store;
-use theory::{ArgSort, Handle, Head, Kind, Leaf, ListSort, Node, VarSort};
+use theory::{ArgSort, Handle, Head, Kind, Leaf, ListSort, Node, VarSort, VariableSort};
 
 fn arg_letter(sort: ArgSort) -> &'static str {
     match sort {

@@ -5,11 +5,10 @@ use crate::lex::{Mark, Token, Word};
 use crate::reason::{Complaint, Reason};
 use crate::trouble::Trouble;
 use crate::{build, form, lex};
-use host::VariableSort;
 use solver::Goal;
 use std::alloc::Global;
 use terms::Store;
-use theory::{Handle, Leaf, Sort, StoreFault, Universe, VarSort};
+use theory::{Handle, Leaf, Sort, StoreFault, Universe, VarSort, VariableSort};
 
 // A line that was read.
 #[derive(Clone, Copy)]
@@ -298,7 +297,7 @@ impl Reader {
     }
 
     fn leaf(&mut self, store: &mut Store<'_>, leaf: Leaf, token: Token) -> Result<(), Trouble> {
-        let sort = form::leaf_sort(leaf);
+        let sort = leaf.sort();
         if !form::takes(self.top.place(), sort, false) {
             return bad(token, misplaced(&self.top, sort));
         }

@@ -66,7 +66,7 @@ fn sort_words(sort: Sort) -> &'static str {
 
 fn place_words(place: Place) -> &'static str {
     match place {
-        Place::Nothing | Place::Term(Want::Nothing) => "nothing",
+        Place::Nothing => "nothing",
         Place::Number(_) => "a number",
         Place::Term(Want::Argument) => "a type, a region or a constant",
         Place::Term(Want::Alias) => "an alias type",

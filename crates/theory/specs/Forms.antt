@@ -1,6 +1,6 @@
 -- Terms by their form: which trees are well formed and of which sort, which leaves occur in a tree, which trees are integer or
 -- float types, and what a kind says of its canonical variable.
-use Rattle.std.specs.Prelude.{ℕ, suc, Bool, true, false, cond, ◌&&◌, ◌||◌, List, [], ◌∷◌, ◌++◌, length, nat_le}
+use Rattle.std.specs.Prelude.{Some, ℕ, suc, Bool, true, false, cond, ◌&&◌, ◌||◌, List, [], ◌∷◌, ◌++◌, length, nat_le}
 use Rattle.std.proofs.Math.Option.{Option, none, some}
 use Rattle.theory.specs.declared.words.ArgSort.{ArgSort}
 use Rattle.theory.specs.declared.words.ArgSort.TheVariants.{Ty as ty, Region as region, Const as const}
@@ -16,7 +16,7 @@ use Rattle.theory.specs.declared.words.Head.{Head}
 use Rattle.theory.specs.declared.words.Head.TheVariants.{Constructor, Alias, Function, Unevaluated, Value, Predicate, OpaquePair, Goal as AGoal, Outlives, Equal, List as AList}
 use Rattle.theory.specs.declared.words.Want.TheVariants.{Argument as AnArgument}
 use Rattle.theory.specs.Outcomes.{is_some}
-use Rattle.theory.specs.Trees.{Tree, leaf, node, nil, cons, items, applies, under, seen, node_sort, wants, least, same_sort, meets}
+use Rattle.theory.specs.Trees.{Tree, leaf, node, nil, cons, items, applies, under, seen, node_sort, wants, least, same_sort, served}
 
 -- the sort of what a store holds
 abbrev pub sort_of : Tree → Sort
@@ -33,7 +33,7 @@ is_entry (cons t u) = false
 
 -- what stands at a place of the row under a head: an argument, where the head stands over a list of arguments
 abbrev pub takes_there : Head → ℕ → Tree → Bool
-takes_there h k t = meets (cond (applies h) AnArgument (wants h k)) (seen t)
+takes_there h k t = served (cond (applies h) (Some AnArgument) (wants h k)) (seen t)
 
 abbrev pub fewest : Head → ℕ
 fewest h = cond (applies h) 0 (least h)
@@ -96,7 +96,7 @@ is_variable Erased = false
 is_variable (AKind k) = false
 
 -- the variable of a sort with a number
-unfoldable pub variable_of : VariableSort → ℕ → Leaf
+abbrev pub variable_of : VariableSort → ℕ → Leaf
 variable_of a_ty n = Variable v_ty n
 variable_of an_int n = Variable v_int n
 variable_of a_float n = Variable v_float n

@@ -1,7 +1,7 @@
 -- Terms as trees. What a store holds is a leaf, or a node: a head over the row of its parts (`nil` and `cons`).
 -- A constructor, alias, function, unevaluated constant and predicate stand right over their arguments; the list of these
 -- arguments is a tree of its own too, with the head `List Arguments`, and is held before them.
-use Rattle.std.specs.Prelude.{ℕ, zero, suc, ◌+◌, ◌-◌, max, Bool, true, false, cond, List, [], ◌∷◌, length, ◌==◌, bit_or, nat_lt}
+use Rattle.std.specs.Prelude.{ℕ, zero, suc, ◌+◌, ◌-◌, max, Bool, true, false, cond, List, [], ◌∷◌, length, Some, None, Option, ◌==◌, bit_or, nat_lt}
 use Rattle.theory.specs.declared.words.ArgSort.{ArgSort}
 use Rattle.theory.specs.declared.words.ArgSort.TheVariants.{Ty as ty, Region as region, Const as const}
 use Rattle.theory.specs.declared.words.VarSort.{VarSort}
@@ -17,7 +17,7 @@ use Rattle.theory.specs.declared.words.Head.TheVariants.{Constructor, Alias, Fun
 use Rattle.theory.specs.declared.words.Node.{Node}
 use Rattle.theory.specs.declared.words.Node.TheVariants.{Leaf as ALeaf, Over}
 use Rattle.theory.specs.declared.words.Want.{Want}
-use Rattle.theory.specs.declared.words.Want.TheVariants.{Nothing, Argument as AnArgument, Alias as AnAlias, Of}
+use Rattle.theory.specs.declared.words.Want.TheVariants.{Argument as AnArgument, Alias as AnAlias, Of}
 use Rattle.theory.specs.declared.words.Facts.{Facts}
 use Rattle.theory.specs.Codes.{leaf?, head?}
 
@@ -88,6 +88,11 @@ seen (node h ts) = Over h (length (parts (node h ts)))
 seen nil = ALeaf Static
 seen (cons t u) = ALeaf Static
 
+-- how many parts an entry has
+abbrev pub part_count : Node → ℕ
+part_count (ALeaf x) = 0
+part_count (Over h n) = n
+
 -- Sorts
 
 abbrev pub var_sort : VarSort → ArgSort
@@ -137,15 +142,16 @@ element Constraints = Of constraint
 element Kinds = Of kind
 
 -- one part, or two
-abbrev pub only : Want → ℕ → Want
-only w zero = w
-only w (suc k) = Nothing
+abbrev pub only : Want → ℕ → Option Want
+only w zero = Some w
+only w (suc k) = None
 
-abbrev pub both : Want → Want → ℕ → Want
-both w v zero = w
+abbrev pub both : Want → Want → ℕ → Option Want
+both w v zero = Some w
 both w v (suc k) = only v k
 
-abbrev pub wants : Head → ℕ → Want
+-- none at a place that it does not have
+abbrev pub wants : Head → ℕ → Option Want
 wants (Constructor n) k = only (Of (list_of Arguments)) k
 wants (Alias n) k = only (Of (list_of Arguments)) k
 wants (Function c) k = only (Of (list_of Arguments)) k
@@ -156,7 +162,7 @@ wants OpaquePair k = both AnAlias (Of (Argument ty)) k
 wants Goal k = both (Of (list_of Environment)) (Of predicate) k
 wants (Outlives v) k = both AnArgument (Of (Argument region)) k
 wants (Equal v) k = both (Of (Argument region)) (Of (Argument region)) k
-wants (AList s) k = element s
+wants (AList s) k = Some (element s)
 
 abbrev pub least : Head → ℕ
 least (Constructor n) = 1
@@ -212,14 +218,17 @@ is_alias (ALeaf x) = false
 is_alias (Over h n) = is_alias_head h
 
 abbrev pub meets : Want → Node → Bool
-meets Nothing v = false
 meets AnArgument v = is_argument (node_sort v)
 meets AnAlias v = is_alias v
 meets (Of s) v = same_sort s (node_sort v)
 
+abbrev pub served : Option Want → Node → Bool
+served None v = false
+served (Some w) v = meets w v
+
 -- the head takes such an entry as its part at a place
 abbrev pub takes : Head → ℕ → Node → Bool
-takes h k v = meets (wants h k) v
+takes h k v = served (wants h k) v
 
 -- Height, flags, and the outermost bound depth
 

@@ -4,6 +4,7 @@
 
 mod laws;
 mod limits;
+mod sorts;
 mod words;
 
 pub use laws::handles_last;

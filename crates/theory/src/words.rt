@@ -1,4 +1,6 @@
 // The vocabulary of terms.
+ghost use Rattle.std.specs.Prelude.{◌≡◌, ◌==◌, not, bit_and, bit_or};
+ghost use Rattle.theory.specs.Outcomes.{store_number};
 
 // A universe's number. Its width stands here alone.
 pub type Universe = u16;
@@ -119,10 +121,9 @@ pub struct Code {
     pub two: u32,
 }
 
-// What a head takes at a place.
+// What a head takes at a place that it has.
 #[derive(Clone, Copy)]
 pub enum Want {
-    Nothing,
     Argument,
     Alias,
     Of(Sort),
@@ -156,6 +157,22 @@ impl Flags {
     pub const ERASED: Flags = Flags { bits: 256 };
 
     pub const CANONICAL: Flags = Flags { bits: 512 };
+
+    // The flags of both.
+    pub fn union(self, other: Flags) -> Flags
+        ensures { result.bits ≡ bit_or self.bits other.bits }
+    {
+        Flags {
+            bits: self.bits | other.bits,
+        }
+    }
+
+    // Whether they have a flag in common.
+    pub fn meets(self, other: Flags) -> bool
+        ensures { result ≡ not (bit_and self.bits other.bits == 0) }
+    {
+        self.bits & other.bits != 0
+    }
 }
 
 // What is found of a term once, when it is added: its height, its flags, and how many binders must stand around it for
@@ -180,4 +197,17 @@ pub enum StoreFault {
     TooHigh,
     // 3: the new list is too long
     TooLong,
+}
+
+impl StoreFault {
+    // The number of the refusal.
+    pub fn number(self) -> u8
+        ensures { result ≡ store_number self }
+    {
+        match self {
+            StoreFault::NoSuch(_) | StoreFault::BadPart(_) => 1,
+            StoreFault::Full => 2,
+            StoreFault::TooHigh | StoreFault::TooLong => 3,
+        }
+    }
 }

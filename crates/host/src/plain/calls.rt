@@ -2,10 +2,10 @@
 ghost use Rattle.std.specs.Prelude.{◌≡◌, ℕ, ◌+◌, ◌<◌, ◌≤◌, min, [], ◌∷◌, ◌++◌, IfOk, if◌then◌else◌, vec_len, vec_capacity, OnErr, OnOk, nat_eq, nat_lt, slice_index};
 ghost use Rattle.host.specs.Hosts.{count as how_many, opened, made, rooted, joined, Grown, Fresh, AfterJoin};
 
-use crate::fault::{HostFault, VariableSort};
+use crate::fault::HostFault;
 use crate::plain::PlainHost;
 use std::alloc::{AllocError, Global};
-use theory::{MOST_PLACES, Universe};
+use theory::{MOST_PLACES, Universe, VariableSort};
 
 impl PlainHost {
     // A host with no event, whose log has the places given, and at most 65,535 of them.

@@ -7,10 +7,11 @@ ghost use Rattle.solver.specs.Numbers.{call_number, of_goal, FaultOfGoal, HostFa
 use crate::canonical::forms::{Form, Part, form_in_goal};
 use crate::canonical::scratch::{Name, Names, Open, Scratch, put_reserved};
 use crate::canonical::{CallFault, CanonicalGoal, Goal, Question};
-use host::{HostFault, PlainHost, VariableSort};
+use host::{HostFault, PlainHost};
 use terms::Store;
 use theory::{
-    ArgSort, Flags, Handle, Head, Kind, Leaf, ListSort, MOST_NAMES, Node, Sort, StoreFault, VarSort,
+    ArgSort, Flags, Handle, Head, Kind, Leaf, ListSort, MOST_NAMES, Node, Sort, StoreFault,
+    VarSort, VariableSort,
 };
 
 // The variable that a leaf is.

@@ -4,8 +4,7 @@ ghost use Rattle.theory.specs.Store.{get as read, part as part_at, facts_at, sor
 ghost use Rattle.terms.specs.Reads.{ReadAt, Reads, same_at};
 ghost use Rattle.terms.specs.Means.{trees};
 
-use crate::forms::sort_of;
-use crate::memory::{Entry, parts_of};
+use crate::memory::Entry;
 use crate::store::Store;
 use theory::{Facts, Handle, Node, Sort, StoreFault};
 
@@ -34,7 +33,7 @@ impl Store<'_> {
         ensures { result ≡ part_at (trees self.now) term place }
     {
         let e = self.entry(term)?;
-        if place >= parts_of(e) {
+        if place >= e.node.count() {
             return Err(StoreFault::BadPart(place));
         }
         Ok(self.items[e.first as usize + place])
@@ -51,7 +50,7 @@ impl Store<'_> {
     pub fn sort(&self, term: Handle) -> Result<Sort, StoreFault>
         ensures { result ≡ sort_at (trees self.now) term }
     {
-        Ok(sort_of(self.entry(term)?.node))
+        Ok(self.entry(term)?.node.sort())
     }
 }
 
