@@ -18,15 +18,10 @@ fn answer_all<R: BufRead + Drop>(
     rt: &HostRuntime,
     store: &mut Store<'_>,
     session: &mut Session,
-    mut script: R,
+    script: R,
 ) -> io::Result<()> {
-    let mut text = Vec::new(rt.alloc());
-    for line in 1..u64::MAX {
-        text.clear();
-        if script.read_until(b'\n', &mut text)? == 0 {
-            break;
-        }
-        if let Some(answer) = session.answer(store, line, text.as_slice())? {
+    for (line, text) in (1u64..).zip(script.split(rt.alloc(), b'\n')) {
+        if let Some(answer) = session.answer(store, line, text?.as_slice())? {
             println!(rt; "{answer}")?;
         }
     }
