@@ -21,7 +21,7 @@ fn answer_all<R: BufRead + Drop>(
     script: R,
 ) -> io::Result<()> {
     for (line, text) in (1u64..).zip(script.split(rt.alloc(), b'\n')) {
-        if let Some(answer) = session.answer(store, line, text?.as_slice())? {
+        if let Some(answer) = session.answer(store, line, &text?)? {
             println!(rt; "{answer}")?;
         }
     }
@@ -30,9 +30,7 @@ fn answer_all<R: BufRead + Drop>(
 
 // The file that the command line names, if any.
 fn script_path(rt: &HostRuntime) -> io::Result<Option<String>> {
-    let mut words = env::args(rt)?;
-    let _program = words.next();
-    Ok(words.next())
+    Ok(env::args(rt)?.nth(1))
 }
 
 fn open_script(rt: &HostRuntime, path: &str) -> io::Result<File> {
@@ -51,15 +49,11 @@ fn main(rt: HostRuntime) -> io::Result<()> {
     let mut entries = vec![in heap; Entry::VACANT; MOST_ENTRIES]?;
     let mut buckets = vec![in heap; 0u32; BUCKETS]?;
     let mut items = vec![in heap; 0u32; ITEMS]?;
-    let mut store = Store::new(
-        entries.as_mut_slice(),
-        buckets.as_mut_slice(),
-        items.as_mut_slice(),
-    );
+    let mut store = Store::new(&mut entries, &mut buckets, &mut items);
     let mut session = Session::new(heap, MOST_PLACES)?;
     match script_path(&rt)? {
         Some(path) => {
-            let file = open_script(&rt, path.as_str())?;
+            let file = open_script(&rt, &path)?;
             answer_all(&rt, &mut store, &mut session, BufReader::new(heap, file)?)
         }
         None => answer_all(
