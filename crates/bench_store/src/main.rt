@@ -2,7 +2,7 @@
 #![tactic(auto)]
 
 use terms::{Entry, Store};
-use theory::{ArgSort, Handle, Head, Leaf, ListSort, StoreFault, VarSort};
+use theory::{ArgSort, Handle, Head, Leaf, ListSort, MOST_ENTRIES, StoreFault, VarSort};
 
 const COUNT: u32 = 60_000;
 
@@ -57,15 +57,11 @@ fn pass(s: &mut Store, first: Last) -> u64 {
     sum
 }
 
-fn run(rt: &HostRuntime) -> anyhow::Result<()> {
-    let mut entries = vec![in rt.alloc(); Entry::VACANT; 65_535]?;
+fn main(rt: HostRuntime) -> anyhow::Result<()> {
+    let mut entries = vec![in rt.alloc(); Entry::VACANT; MOST_ENTRIES]?;
     let mut buckets = vec![in rt.alloc(); 0u32; 65_536]?;
     let mut items = vec![in rt.alloc(); 0u32; 262_144]?;
-    let mut s = Store::new(
-        entries.as_mut_slice(),
-        buckets.as_mut_slice(),
-        items.as_mut_slice(),
-    );
+    let mut s = Store::new(&mut entries, &mut buckets, &mut items);
     let zero = Last {
         ty: 0,
         region: 1,
@@ -82,8 +78,4 @@ fn run(rt: &HostRuntime) -> anyhow::Result<()> {
     let again = pass(&mut s, zero);
     println!(rt; "{added} {len} {found} {cut} {again}")?;
     Ok(())
-}
-
-fn main(rt: HostRuntime) -> anyhow::Result<()> {
-    run(&rt)
 }
