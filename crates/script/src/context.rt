@@ -3,7 +3,6 @@ ghost use Rattle.std.specs.Prelude.{◌≡◌, [], ◌∷◌, ◌++◌, is_some,
 ghost use Rattle.host.specs.Hosts.{Fresh};
 ghost use Rattle.host.specs.declared.fault.HostFault.TheVariants.{Store as in_store, UnknownUniverse as unopened, LogFull as no_place};
 
-use crate::tally::Tally;
 use host::{HostFault, PlainHost};
 use solver::{CallFault, CanonicalGoal, Goal, Question, Scratch};
 use std::alloc::{AllocError, Global};
@@ -35,7 +34,6 @@ impl Asked {
 #[derive(Drop)]
 pub struct Context {
     host: PlainHost,
-    tally: Tally,
     questions: Vec<Asked>,
 }
 
@@ -44,7 +42,6 @@ impl Context {
     pub fn new(heap: Global, places: u32) -> Result<Context, AllocError> {
         Ok(Context {
             host: PlainHost::new(heap, places)?,
-            tally: Tally::new(places),
             questions: Vec::new(heap),
         })
     }
@@ -56,7 +53,6 @@ impl Context {
     {
         store.cut(0);
         self.host.clear();
-        self.tally.restart();
         self.questions.clear();
     }
 
@@ -76,20 +72,14 @@ impl Context {
     pub fn open_universe(&mut self) -> Result<Universe, HostFault>
         ensures kept { OnErr result (self.new ≡ self.old) }
     {
-        let universe = self.host.open_universe()?;
-        self.tally.note_event();
-        Ok(universe)
+        self.host.open_universe()
     }
 
     // Joins the classes of two type variables; false where they are joined already.
     pub fn join(&mut self, a: u32, b: u32) -> Result<bool, HostFault>
         ensures kept { OnErr result (self.new ≡ self.old) }
     {
-        let joined = self.host.join(a, b)?;
-        if joined {
-            self.tally.note_event();
-        }
-        Ok(joined)
+        self.host.join(a, b)
     }
 
     // Makes a variable and its term, or neither.
@@ -102,28 +92,24 @@ impl Context {
         ensures kept { OnErr result (self.new ≡ self.old) }
     {
         let held = store.len();
-        if let Err(fault) = store.add_leaf(self.tally.next_variable(sort)) {
-            return Err(self.before_store(universe, fault));
+        let variable = sort.leaf(self.host.count(sort));
+        store
+            .add_leaf(variable)
+            .map_err(|fault| self.before_store(universe, fault))?;
+        let made = self.host.make(sort, universe);
+        if made.is_err() {
+            store.cut(held);
         }
-        match self.host.make(sort, universe) {
-            Ok(number) => {
-                self.tally.note_variable(sort);
-                Ok(number)
-            }
-            Err(fault) => {
-                store.cut(held);
-                Err(fault)
-            }
-        }
+        made
     }
 
     // Where the store refuses the term of a variable: the host's own refusals come first.
     fn before_store(&self, universe: Universe, fault: StoreFault) -> HostFault
-        ensures { result ≡ (if nat_lt self.now.host.universes universe then unopened universe else (if nat_le self.now.tally.places self.now.tally.events then no_place else in_store fault)) }
+        ensures { result ≡ (if nat_lt self.now.host.universes universe then unopened universe else (if nat_le self.now.host.places self.now.host.used then no_place else in_store fault)) }
     {
         if universe > self.host.universe() {
             HostFault::UnknownUniverse(universe)
-        } else if self.tally.is_full() {
+        } else if self.host.is_full() {
             HostFault::LogFull
         } else {
             HostFault::Store(fault)
