@@ -1,6 +1,7 @@
 // A context beside its store: a host, and the questions that were asked of it.
-ghost use Rattle.std.specs.Prelude.{◌≡◌, [], ◌∷◌, ◌++◌, is_some, if◌then◌else◌, vec_len, OnErr, OnOk, nat_le, nat_lt};
-ghost use Rattle.host.specs.Hosts.{Fresh};
+ghost use Rattle.std.specs.Prelude.{◌≡◌, [], ◌∷◌, ◌++◌, IfOk, is_some, min, if◌then◌else◌, vec_len, OnErr, OnOk, nat_le, nat_lt};
+ghost use Rattle.theory.specs.Limits.{most_places};
+ghost use Rattle.host.specs.Hosts.{count as how_many, opened, joined, Fresh, UniverseOpened, Grown, AfterJoin};
 ghost use Rattle.host.specs.declared.fault.HostFault.TheVariants.{Store as in_store, UnknownUniverse as unopened, LogFull as no_place};
 
 use host::{HostFault, PlainHost};
@@ -39,7 +40,10 @@ pub struct Context {
 
 impl Context {
     // A new context whose host has this many places in its log, and at most 65,535.
-    pub fn new(heap: Global, places: u32) -> Result<Context, AllocError> {
+    pub fn new(heap: Global, places: u32) -> Result<Context, AllocError>
+        ensures host { IfOk result (λ c. Fresh (min places most_places) c.host) }
+        ensures questions { IfOk result (λ c. c.questions.items ≡ []) }
+    {
         Ok(Context {
             host: PlainHost::new(heap, places)?,
             questions: Vec::new(heap),
@@ -70,6 +74,8 @@ impl Context {
     }
 
     pub fn open_universe(&mut self) -> Result<Universe, HostFault>
+        ensures answer { result ≡ opened self.old.host }
+        ensures next { IfOk result (UniverseOpened self.old.host self.new.host) }
         ensures kept { OnErr result (self.new ≡ self.old) }
     {
         self.host.open_universe()
@@ -77,6 +83,8 @@ impl Context {
 
     // Joins the classes of two type variables; false where they are joined already.
     pub fn join(&mut self, a: u32, b: u32) -> Result<bool, HostFault>
+        ensures answer { result ≡ joined self.old.host a b }
+        ensures next { IfOk result (AfterJoin a b self.old.host self.new.host) }
         ensures kept { OnErr result (self.new ≡ self.old) }
     {
         self.host.join(a, b)
@@ -89,6 +97,8 @@ impl Context {
         sort: VariableSort,
         universe: Universe,
     ) -> Result<u32, HostFault>
+        ensures number { IfOk result (λ n. n ≡ how_many self.old.host sort) }
+        ensures next { OnOk result (Grown sort self.old.host self.new.host) }
         ensures kept { OnErr result (self.new ≡ self.old) }
     {
         let held = store.len();
