@@ -1,9 +1,9 @@
 // A context beside its store: a host, and the questions that were asked of it.
-ghost use Rattle.std.specs.Prelude.{◌≡◌, [], ◌∷◌, ◌++◌, is_some, if◌then◌else◌, vec_len, OnErr, OnOk, nat_le, nat_lt};
-ghost use Rattle.host.specs.Hosts.{Fresh};
+ghost use Rattle.std.specs.Prelude.{◌≡◌, [], ◌∷◌, ◌++◌, IfOk, is_some, min, if◌then◌else◌, vec_len, OnErr, OnOk, nat_le, nat_lt};
+ghost use Rattle.theory.specs.Limits.{most_places};
+ghost use Rattle.host.specs.Hosts.{count as how_many, opened, joined, Fresh, UniverseOpened, Grown, AfterJoin};
 ghost use Rattle.host.specs.declared.fault.HostFault.TheVariants.{Store as in_store, UnknownUniverse as unopened, LogFull as no_place};
 
-use crate::tally::Tally;
 use host::{HostFault, PlainHost};
 use solver::{CallFault, CanonicalGoal, Goal, Question, Scratch};
 use std::alloc::{AllocError, Global};
@@ -35,16 +35,17 @@ impl Asked {
 #[derive(Drop)]
 pub struct Context {
     host: PlainHost,
-    tally: Tally,
     questions: Vec<Asked>,
 }
 
 impl Context {
     // A new context whose host has this many places in its log, and at most 65,535.
-    pub fn new(heap: Global, places: u32) -> Result<Context, AllocError> {
+    pub fn new(heap: Global, places: u32) -> Result<Context, AllocError>
+        ensures host { IfOk result (λ c. Fresh (min places most_places) c.host) }
+        ensures questions { IfOk result (λ c. c.questions.items ≡ []) }
+    {
         Ok(Context {
             host: PlainHost::new(heap, places)?,
-            tally: Tally::new(places),
             questions: Vec::new(heap),
         })
     }
@@ -56,7 +57,6 @@ impl Context {
     {
         store.cut(0);
         self.host.clear();
-        self.tally.restart();
         self.questions.clear();
     }
 
@@ -74,22 +74,20 @@ impl Context {
     }
 
     pub fn open_universe(&mut self) -> Result<Universe, HostFault>
+        ensures answer { result ≡ opened self.old.host }
+        ensures next { IfOk result (UniverseOpened self.old.host self.new.host) }
         ensures kept { OnErr result (self.new ≡ self.old) }
     {
-        let universe = self.host.open_universe()?;
-        self.tally.note_event();
-        Ok(universe)
+        self.host.open_universe()
     }
 
     // Joins the classes of two type variables; false where they are joined already.
     pub fn join(&mut self, a: u32, b: u32) -> Result<bool, HostFault>
+        ensures answer { result ≡ joined self.old.host a b }
+        ensures next { IfOk result (AfterJoin a b self.old.host self.new.host) }
         ensures kept { OnErr result (self.new ≡ self.old) }
     {
-        let joined = self.host.join(a, b)?;
-        if joined {
-            self.tally.note_event();
-        }
-        Ok(joined)
+        self.host.join(a, b)
     }
 
     // Makes a variable and its term, or neither.
@@ -99,31 +97,29 @@ impl Context {
         sort: VariableSort,
         universe: Universe,
     ) -> Result<u32, HostFault>
+        ensures number { IfOk result (λ n. n ≡ how_many self.old.host sort) }
+        ensures next { OnOk result (Grown sort self.old.host self.new.host) }
         ensures kept { OnErr result (self.new ≡ self.old) }
     {
         let held = store.len();
-        if let Err(fault) = store.add_leaf(self.tally.next_variable(sort)) {
-            return Err(self.before_store(universe, fault));
+        let variable = sort.leaf(self.host.count(sort));
+        store
+            .add_leaf(variable)
+            .map_err(|fault| self.before_store(universe, fault))?;
+        let made = self.host.make(sort, universe);
+        if made.is_err() {
+            store.cut(held);
         }
-        match self.host.make(sort, universe) {
-            Ok(number) => {
-                self.tally.note_variable(sort);
-                Ok(number)
-            }
-            Err(fault) => {
-                store.cut(held);
-                Err(fault)
-            }
-        }
+        made
     }
 
     // Where the store refuses the term of a variable: the host's own refusals come first.
     fn before_store(&self, universe: Universe, fault: StoreFault) -> HostFault
-        ensures { result ≡ (if nat_lt self.now.host.universes universe then unopened universe else (if nat_le self.now.tally.places self.now.tally.events then no_place else in_store fault)) }
+        ensures { result ≡ (if nat_lt self.now.host.universes universe then unopened universe else (if nat_le self.now.host.places self.now.host.used then no_place else in_store fault)) }
     {
         if universe > self.host.universe() {
             HostFault::UnknownUniverse(universe)
-        } else if self.tally.is_full() {
+        } else if self.host.is_full() {
             HostFault::LogFull
         } else {
             HostFault::Store(fault)

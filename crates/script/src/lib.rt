@@ -4,6 +4,5 @@
 mod compare;
 mod context;
 mod session;
-mod tally;
 
 pub use session::Session;

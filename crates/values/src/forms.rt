@@ -1,6 +1,5 @@
-// The forms of foldable values: one term, two terms, and a state over any value.
-ghost use Rattle.std.specs.Prelude.{◌≡◌, ℕ, List, [], ◌∷◌, drop, slice_index};
-ghost use Rattle.values.specs.Lists.{one_element, two_elements};
+// The forms of foldable values: terms alone, and a state over any value.
+ghost use Rattle.std.specs.Prelude.{◌≡◌, ◌∷◌, drop, slice_index};
 ghost use Rattle.std.proofs.Common.{rules};
 
 use crate::value::Foldable;
@@ -9,77 +8,34 @@ use theory::{Handle, StoreFault};
 // The most roots that a value is walked with.
 const MOST_ROOTS: usize = 65_535;
 
-// A term by itself: a type, a region, a constant, a predicate, an environment, a list.
-#[derive(Clone, Copy)]
-pub struct One {
-    pub term: Handle,
-}
+// Terms alone: one is a type, a region, a constant, a predicate, an environment or a list; two are a goal's environment and
+// predicate.
+impl<const N: usize> Foldable for [Handle; N] {
+    ghost roots = { λ x. x };
 
-impl Foldable for One {
-    ghost roots = { λ x. x.term ∷ [] };
-
-    ghost rebuilt = { λ x rs. record { term = slice_index rs 0 } };
+    ghost rebuilt = { λ x rs. rs };
 
     ghost same = { Prim.search rules };
 
-    ghost given = { λ x rs e. one_element rs e };
+    ghost given = { Prim.search rules };
 
     ghost last = { Prim.search rules };
 
     fn count(&self) -> Result<usize, StoreFault> {
-        Ok(1)
-    }
-
-    fn root(&self, k: usize) -> Result<Handle, StoreFault> {
-        if k == 0 {
-            Ok(self.term)
+        if N <= MOST_ROOTS {
+            Ok(N)
         } else {
-            Err(StoreFault::BadPart(k))
+            Err(StoreFault::TooLong)
         }
-    }
-
-    fn set(&mut self, k: usize, term: Handle) {
-        if k == 0 {
-            self.term = term;
-        }
-    }
-}
-
-// Two terms: a goal's environment and predicate.
-#[derive(Clone, Copy)]
-pub struct Pair {
-    pub first: Handle,
-    pub second: Handle,
-}
-
-impl Foldable for Pair {
-    ghost roots = { λ x. x.first ∷ x.second ∷ [] };
-
-    ghost rebuilt = { λ x rs. record { first = slice_index rs 0; second = slice_index rs 1 } };
-
-    ghost same = { Prim.search rules };
-
-    ghost given = { λ x rs e. two_elements rs e };
-
-    ghost last = { Prim.search rules };
-
-    fn count(&self) -> Result<usize, StoreFault> {
-        Ok(2)
     }
 
     fn root(&self, k: usize) -> Result<Handle, StoreFault> {
-        match k {
-            0 => Ok(self.first),
-            1 => Ok(self.second),
-            _ => Err(StoreFault::BadPart(k)),
-        }
+        self.get(k).copied().ok_or(StoreFault::BadPart(k))
     }
 
     fn set(&mut self, k: usize, term: Handle) {
-        match k {
-            0 => self.first = term,
-            1 => self.second = term,
-            _ => {}
+        if k < N {
+            self[k] = term;
         }
     }
 }
@@ -115,10 +71,7 @@ impl<T: Foldable> Foldable for State<T> {
         if k == 0 {
             return Ok(self.values);
         }
-        match self.held.root(k - 1) {
-            Ok(term) => Ok(term),
-            Err(_) => Err(StoreFault::BadPart(k)),
-        }
+        self.held.root(k - 1).map_err(|_| StoreFault::BadPart(k))
     }
 
     fn set(&mut self, k: usize, term: Handle) {

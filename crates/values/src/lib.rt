@@ -4,5 +4,5 @@
 mod forms;
 mod value;
 
-pub use forms::{One, Pair, State};
+pub use forms::State;
 pub use value::{Foldable, put_root};

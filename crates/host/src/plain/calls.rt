@@ -1,16 +1,17 @@
 // The calls of a host: each answers and changes it as specs/Hosts.antt says, and a refused one leaves it as it was.
-ghost use Rattle.std.specs.Prelude.{◌≡◌, ℕ, ◌+◌, ◌<◌, ◌≤◌, min, [], ◌∷◌, ◌++◌, IfOk, if◌then◌else◌, vec_len, vec_capacity, OnErr, OnOk, nat_eq, nat_lt, slice_index};
-ghost use Rattle.host.specs.Hosts.{count as how_many, opened, made, rooted, joined, Grown, Fresh, AfterJoin};
+ghost use Rattle.std.specs.Prelude.{◌≡◌, ℕ, ◌+◌, ◌<◌, ◌≤◌, min, IfOk, if◌then◌else◌, vec_len, vec_capacity, OnErr, OnOk, nat_eq, nat_le, nat_lt, slice_index};
+ghost use Rattle.theory.specs.Limits.{most_places};
+ghost use Rattle.host.specs.Hosts.{count as how_many, placed, opened, made, rooted, joined, PlaceTaken, UniverseOpened, Grown, Fresh, AfterJoin};
 
 use crate::fault::HostFault;
-use crate::plain::PlainHost;
+use crate::plain::{PlainHost, SORTS};
 use std::alloc::{AllocError, Global};
 use theory::{MOST_PLACES, Universe, VariableSort};
 
 impl PlainHost {
     // A host with no event, whose log has the places given, and at most 65,535 of them.
     pub fn new(heap: Global, places: u32) -> Result<PlainHost, AllocError>
-        ensures { IfOk result (λ h. Fresh (min places 65535) h) }
+        ensures { IfOk result (λ h. Fresh (min places most_places) h) }
     {
         let places = places.min(MOST_PLACES);
         let roots = Vec::with_capacity(heap, places as usize)?;
@@ -18,10 +19,7 @@ impl PlainHost {
             places,
             used: 0,
             universes: 0,
-            ints: 0,
-            floats: 0,
-            regions: 0,
-            consts: 0,
+            counts: [0; SORTS],
             roots,
         })
     }
@@ -30,13 +28,10 @@ impl PlainHost {
     pub fn clear(&mut self)
         ensures { Fresh self.old.places self.new }
     {
-        self.roots.clear();
         self.used = 0;
         self.universes = 0;
-        self.ints = 0;
-        self.floats = 0;
-        self.regions = 0;
-        self.consts = 0;
+        self.counts = [0; SORTS];
+        self.roots.clear();
     }
 
     // The current universe: the count of opened ones.
@@ -46,35 +41,25 @@ impl PlainHost {
         self.universes
     }
 
-    // Opens the next universe.
-    pub fn open_universe(&mut self) -> Result<Universe, HostFault>
-        ensures answer { result ≡ opened self.old }
-        ensures kept { OnErr result (self.new ≡ self.old) }
-        ensures next { IfOk result (λ n. (self.new.universes ≡ n) × (self.new.used ≡ self.old.used + 1) × (self.new.roots ≡ self.old.roots)) }
+    // Whether the log has no place left.
+    pub fn is_full(&self) -> bool
+        ensures { result ≡ nat_le self.now.places self.now.used }
     {
-        if self.used >= self.places {
-            return Err(HostFault::LogFull);
-        }
-        let Some(next) = self.universes.checked_add(1) else {
-            return Err(HostFault::LogFull);
-        };
-        self.used += 1;
-        self.universes = next;
-        Ok(next)
+        self.used >= self.places
+    }
+
+    // How many variables of a sort there are: the number of the next one.
+    pub fn count(&self, sort: VariableSort) -> u32
+        ensures { result ≡ how_many self.now sort }
+    {
+        self.counts[sort as usize]
     }
 
     // Whether a variable has been made.
     pub fn is_known(&self, sort: VariableSort, number: u32) -> bool
         ensures { result ≡ nat_lt number (how_many self.now sort) }
     {
-        let made = match sort {
-            VariableSort::Ty => self.roots.len() as u32,
-            VariableSort::Int => self.ints,
-            VariableSort::Float => self.floats,
-            VariableSort::Region => self.regions,
-            VariableSort::Const => self.consts,
-        };
-        number < made
+        number < self.count(sort)
     }
 
     // The lowest variable of a type variable's sub class.
@@ -82,10 +67,35 @@ impl PlainHost {
         ensures answer { result ≡ rooted self.now v }
         ensures below { IfOk result (λ n. n ≤ v) }
     {
-        if v as usize >= self.roots.len() {
-            return Err(HostFault::UnknownVariable(VariableSort::Ty, v));
+        self.roots
+            .get(v as usize)
+            .copied()
+            .ok_or(HostFault::UnknownVariable(VariableSort::Ty, v))
+    }
+
+    // Takes a place of the log for an event.
+    fn take_place(&mut self) -> Result<(), HostFault>
+        ensures answer { result ≡ placed self.old }
+        ensures kept { OnErr result (self.new ≡ self.old) }
+        ensures taken { OnOk result (PlaceTaken self.old self.new) }
+    {
+        if self.is_full() {
+            return Err(HostFault::LogFull);
         }
-        Ok(self.roots[v as usize])
+        self.used += 1;
+        Ok(())
+    }
+
+    // Opens the next universe.
+    pub fn open_universe(&mut self) -> Result<Universe, HostFault>
+        ensures answer { result ≡ opened self.old }
+        ensures kept { OnErr result (self.new ≡ self.old) }
+        ensures next { IfOk result (UniverseOpened self.old self.new) }
+    {
+        let next = self.universes.checked_add(1).ok_or(HostFault::LogFull)?;
+        self.take_place()?;
+        self.universes = next;
+        Ok(next)
     }
 
     // Makes a variable in an opened universe, with the next number of its sort.
@@ -97,17 +107,15 @@ impl PlainHost {
         if universe > self.universes {
             return Err(HostFault::UnknownUniverse(universe));
         }
-        if self.used >= self.places {
-            return Err(HostFault::LogFull);
+        self.take_place()?;
+        let at = sort as usize;
+        let number = self.counts[at];
+        self.counts[at] += 1;
+        if sort == VariableSort::Ty {
+            // a new type variable is alone in its class
+            self.roots.push_reserved(number);
         }
-        self.used += 1;
-        match sort {
-            VariableSort::Ty => Ok(next_root(&mut self.roots)),
-            VariableSort::Int => Ok(next(&mut self.ints)),
-            VariableSort::Float => Ok(next(&mut self.floats)),
-            VariableSort::Region => Ok(next(&mut self.regions)),
-            VariableSort::Const => Ok(next(&mut self.consts)),
-        }
+        Ok(number)
     }
 
     // Joins the sub classes of two type variables: false where they are in one class already, which takes no place.
@@ -121,37 +129,10 @@ impl PlainHost {
         if x == y {
             return Ok(false);
         }
-        if self.used >= self.places {
-            return Err(HostFault::LogFull);
-        }
-        self.used += 1;
+        self.take_place()?;
         relabel(&mut self.roots, x.max(y), x.min(y));
         Ok(true)
     }
-}
-
-// The number that is next, which is then counted.
-fn next(count: &mut u32) -> u32
-    requires { count.old < 65535 }
-    ensures value { result ≡ count.old }
-    ensures after { count.new ≡ count.old + 1 }
-{
-    let number = *count;
-    *count += 1;
-    number
-}
-
-// A new type variable is alone in its class.
-fn next_root(roots: &mut Vec<u32>) -> u32
-    requires { (vec_len roots.old < vec_capacity roots.old) × (vec_len roots.old < 65535) }
-    ensures value { result ≡ vec_len roots.old }
-    ensures len { vec_len roots.new ≡ vec_len roots.old + 1 }
-    ensures capacity { vec_capacity roots.new ≡ vec_capacity roots.old }
-    ensures items { roots.new.items ≡ roots.old.items ++ result ∷ [] }
-{
-    let number = roots.len() as u32;
-    roots.push_reserved(number);
-    number
 }
 
 // Puts one class under the root of another.

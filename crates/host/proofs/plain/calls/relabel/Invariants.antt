@@ -1,8 +1,8 @@
 -- The places passed are relabelled, the others are as they were.
-use Rattle.std.proofs.Common.{◌≡◌, ℕ, ◌<◌, ◌≤◌, cond, eqb, get_or}
+use Rattle.std.specs.Prelude.{◌≡◌, ℕ, ◌<◌, ◌≤◌, if◌then◌else◌, nat_eq, slice_index}
 use Rattle.host.proofs.plain.calls.relabel.Given as goal
 
 abbrev pub invariant-loop-root : goal.invariant-loop-root
 invariant-loop-root l =
-    ((k : ℕ) → k < l.root-index → get_or l.root-items k 0 ≡ cond (eqb (get_or l.initial.root-items k 0) l.from) l.to (get_or l.initial.root-items k 0))
-    × ((k : ℕ) → l.root-index ≤ k → get_or l.root-items k 0 ≡ get_or l.initial.root-items k 0)
+    ((k : ℕ) → k < l.root-index → slice_index l.root-items k ≡ (if nat_eq (slice_index l.initial.root-items k) l.from then l.to else slice_index l.initial.root-items k))
+    × ((k : ℕ) → l.root-index ≤ k → slice_index l.root-items k ≡ slice_index l.initial.root-items k)
