@@ -5,7 +5,7 @@ mod makes;
 use crate::slot::Slot;
 use std::marker::Model;
 
-// Lent memory, so slices with their lengths stand here, and no Vec.
+// Lent memory, so slices with the length in use beside them stand here, and no Vec: a map never allocates.
 #[derive(Drop)]
 pub struct Map<'a, K, V> {
     slots: &'a mut [Slot<K, V>],

@@ -31,6 +31,7 @@ impl<K: Copy + Eq + Hash, V: Copy> Map<'_, K, V> {
         ensures { result ≡ found K.eq (digest K.hash_input) self.now.pairs key }
     {
         let place = self.locate(digest(&key), key)?;
+        // As a slice first: only then is it known that the place is inside.
         let slots = &*self.slots;
         Some(slots[place].value)
     }
@@ -53,6 +54,7 @@ impl<K: Copy + Eq + Hash, V: Copy> Map<'_, K, V> {
         requires { place < length self.old.pairs }
         ensures { self.new ≡ record self.old { pairs = revalued self.old.pairs place value } }
     {
+        // As a slice first: only then is it known that the place is inside.
         let slots = &mut *self.slots;
         slots[place].value = value;
     }
