@@ -1,9 +1,8 @@
 pub mod Elements
 pub mod Newest
-pub mod Links
 pub mod Walk
-pub mod Slots
-pub mod Seeking
-pub mod Room
-pub mod Writing
+pub mod Links
+pub mod Indexed
+pub mod Tables
 pub mod Laws
+pub mod Keys

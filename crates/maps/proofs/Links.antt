@@ -1,90 +1,111 @@
 -- The chains of a hash index stand after one entry more, and after the last entry is taken away.
-use Rattle.std.proofs.Common.{◌≡◌, ℕ, suc, ◌+◌, ◌%◌, ◌<◌, ◌≤◌, true, false, eqb, ◌⊎◌, List, length, get_or, set, sym, ap, ◌∙◌, inl, inr, ⊎_elim, arith}
+use Rattle.std.proofs.Common.{◌≡◌, ℕ, suc, ◌+◌, ◌%◌, ◌<◌, ◌≤◌, true, false, eqb, List, [], ◌∷◌, ◌++◌, map, length, get_or, set, sym, refl, ap, ◌∙◌, subst, ⊎_elim, arith}
 use Rattle.std.proofs.lemmas.Bool.{eq-eqb, ne_eqb, cases_eq}
-use Rattle.std.proofs.lemmas.List.{length-set, get_or-set_same, get_or-set_other}
-use Rattle.maps.specs.Chains.{newest, on_bucket, Heads, Nexts}
+use Rattle.std.proofs.lemmas.List.{length-map, length-set, length_push, map_push, get_or_push, get_or_append_left, get_or-set_same, get_or-set_other}
+use Rattle.maps.specs.Chains.{newest, on_bucket, Nexts, Chained}
 use Rattle.maps.proofs.Newest.{newest_here, newest_past, newest_same}
 
--- the same below m
-abbrev pub Agree : (ℕ → ℕ) → (ℕ → ℕ) → ℕ → Type 0
-Agree f g m = (k : ℕ) → k < m → f k ≡ g k
+-- the entries with hashes hs and links ls, and one more
+module _ (hs ls : List ℕ) (h l : ℕ) (hd : List ℕ) (same : length ls ≡ length hs) (some : h % length hd < length hd) where
+  abbrev more : List ℕ
+  more = hs ++ h ∷ []
 
-chain_agree : (f g : ℕ → ℕ) (m i size b : ℕ) → Agree f g m → i ≤ m → newest (on_bucket f size b) i ≡ newest (on_bucket g size b) i
-unfolding on_bucket
-chain_agree f g m i size b a l = newest_same (on_bucket f size b) (on_bucket g size b) i (λ k h. ap (λ x. eqb (x % size) b) (a k (omega arith)))
+  abbrev size : ℕ
+  size = length hd
 
-pub last_or : (i m : ℕ) → i < m + 1 → (i ≡ m) ⊎ (i < m)
-last_or i m h = ⊎_elim (λ e. inl e) (λ ne. inr (omega arith)) (cases_eq i m)
+  own : get_or more (length hs) 0 ≡ h
+  own = get_or_push hs h 0 (length hs) refl
 
--- f are the hashes of n entries, g those with one more
-module _ (f g : ℕ → ℕ) (n : ℕ) (old : Agree g f n) where
-  pub heads_push : (hd : List ℕ) → g n % length hd < length hd → Heads f n hd → Heads g (n + 1) (set hd (g n % length hd) (n + 1))
+  long : length more ≡ suc (length hs)
+  long = omega (arith, length_push hs h)
+
+  front : (b m : ℕ) → m ≤ length hs → newest (on_bucket more size b) m ≡ newest (on_bucket hs size b) m
   unfolding on_bucket
-  heads_push hd l h q lq =
-      let b = g n % length hd in
-      let v = n + 1 in
-      let q' : q < length hd = omega (arith, length-set hd b v) in
-      let P = on_bucket g (length hd) q in
-      let next : n + 1 ≡ suc n = omega arith in
-      let goal : get_or (set hd b v) q 0 ≡ newest P (suc n) =
-      ⊎_elim
-      (λ (z : q ≡ b).
-      let t : P n ≡ true = eq-eqb (g n % length hd) q (sym z) in
-      ap (λ k. get_or (set hd b v) k 0) z ∙ get_or-set_same hd b v 0 l ∙ omega (arith, newest_here P n t))
-      (λ (ne : q ≡ b → ⊥).
-      let away : P n ≡ false = ne_eqb (g n % length hd) q (λ z. ne (sym z)) in
-      get_or-set_other hd b q v 0 ne ∙ h q q' ∙ sym (chain_agree g f n n (length hd) q old (omega arith)) ∙ sym (newest_past P n away))
-      (cases_eq q b)
+  front b m le =
+      newest_same (on_bucket more size b) (on_bucket hs size b) m
+      (λ k lk. ap (λ x. eqb (x % size) b) (get_or_append_left hs (h ∷ []) 0 k (omega arith)))
+
+  -- what the chain of a bucket begins with
+  first_own : newest (on_bucket more size (h % size)) (length more) ≡ length hs + 1
+  unfolding on_bucket
+  first_own =
+      let there : on_bucket more size (h % size) (length hs) ≡ true = eq-eqb (get_or more (length hs) 0 % size) (h % size) (ap (λ x. x % size) own) in
+      omega (arith, ap (newest (on_bucket more size (h % size))) long, newest_here (on_bucket more size (h % size)) (length hs) there)
+
+  first_other : (q : ℕ) → (q ≡ h % size → ⊥) → newest (on_bucket more size q) (length more) ≡ newest (on_bucket hs size q) (length hs)
+  unfolding on_bucket
+  first_other q ne =
+      let away : on_bucket more size q (length hs) ≡ false =
+      ne_eqb (get_or more (length hs) 0 % size) q (λ z. ne (sym z ∙ ap (λ x. x % size) own))
       in
-      goal ∙ ap (newest P) (sym next) ∙ ap (λ z. newest (on_bucket g z q) (n + 1)) (sym (length-set hd b v))
+      ap (newest (on_bucket more size q)) long ∙ newest_past (on_bucket more size q) (length hs) away ∙ front q (length hs) (omega arith)
 
-  -- s and t are the links before and after
-  pub nexts_push : (s t : ℕ → ℕ) (size : ℕ) → Agree t s n → t n ≡ newest (on_bucket f size (g n % size)) n → Nexts f s n size → Nexts g t (n + 1) size
-  nexts_push s t size links is h i l =
-      ⊎_elim
-      (λ (z : i ≡ n).
-      ap t z ∙ is
-      ∙ sym (chain_agree g f n n size (g n % size) old (omega arith))
-      ∙ ap (λ j. newest (on_bucket g size (g j % size)) j) (sym z))
-      (λ (z : i < n).
-      links i z ∙ h i z
-      ∙ sym (chain_agree g f n i size (f i % size) old (omega arith))
-      ∙ ap (λ x. newest (on_bucket g size (x % size)) i) (sym (old i z)))
-      (last_or i n l)
+  -- a bucket after the write
+  written : (v q : ℕ) → q < size → (xs : List ℕ) → (q ≡ h % size → v ≡ newest (on_bucket xs size q) (length xs)) → ((q ≡ h % size → ⊥) → get_or hd q 0 ≡ newest (on_bucket xs size q) (length xs)) → get_or (set hd (h % size) v) q 0 ≡ newest (on_bucket xs (length (set hd (h % size) v)) q) (length xs)
+  written v q lq xs same other =
+      subst (λ z. get_or (set hd (h % size) v) q 0 ≡ newest (on_bucket xs z q) (length xs)) (sym (length-set hd (h % size) v))
+      (⊎_elim
+      (λ (z : q ≡ h % size). ap (λ k. get_or (set hd (h % size) v) k 0) z ∙ get_or-set_same hd (h % size) v 0 some ∙ same z)
+      (λ (ne : q ≡ h % size → ⊥). get_or-set_other hd (h % size) q v 0 ne ∙ other ne)
+      (cases_eq q (h % size)))
 
--- f are the hashes of entries, g those of the first m of them
-module _ (f g : ℕ → ℕ) (m : ℕ) (kept : Agree g f m) where
-  pub nexts_cut : (s t : ℕ → ℕ) (n size : ℕ) → m ≤ n → Agree t s m → Nexts f s n size → Nexts g t m size
-  nexts_cut s t n size less links h i l =
-      links i l ∙ h i (omega arith)
-      ∙ sym (chain_agree g f m i size (f i % size) kept (omega arith))
-      ∙ ap (λ x. newest (on_bucket g size (x % size)) i) (sym (kept i l))
+  push_numbers : l ≡ get_or hd (h % size) 0 → Chained hs ls hd → Chained more (ls ++ l ∷ []) (set hd (h % size) (length hs + 1))
+  push_numbers link c =
+      record {
+        firsts = λ q lq.
+            let q' : q < size = omega (arith, length-set hd (h % size) (length hs + 1)) in
+            written (length hs + 1) q q' more
+            (λ z. sym first_own ∙ ap (λ b. newest (on_bucket more size b) (length more)) (sym z))
+            (λ ne. c.firsts q q' ∙ sym (first_other q ne));
+        others =
+            subst (λ z. Nexts more (ls ++ l ∷ []) z) (sym (length-set hd (h % size) (length hs + 1)))
+            (λ i li.
+            ⊎_elim
+            (λ (z : i ≡ length hs).
+            ap (λ k. get_or (ls ++ l ∷ []) k 0) z ∙ get_or_push ls l 0 (length hs) same ∙ link ∙ c.firsts (h % size) some
+            ∙ sym (front (h % size) (length hs) (omega arith))
+            ∙ ap (λ x. newest (on_bucket more size (x % size)) (length hs)) (sym own)
+            ∙ ap (λ k. newest (on_bucket more size (get_or more k 0 % size)) k) (sym z))
+            (λ (ne : i ≡ length hs → ⊥).
+            let before : i < length hs = omega (arith, long) in
+            get_or_append_left ls (l ∷ []) 0 i (omega arith) ∙ c.others i before
+            ∙ sym (front (get_or hs i 0 % size) i (omega arith))
+            ∙ ap (λ x. newest (on_bucket more size (x % size)) i) (sym (get_or_append_left hs (h ∷ []) 0 i before)))
+            (cases_eq i (length hs)));
+      }
+
+  pop_numbers : Chained more (ls ++ l ∷ []) hd → Chained hs ls (set hd (h % size) l)
+  pop_numbers c =
+      record {
+        firsts = λ q lq.
+            let q' : q < size = omega (arith, length-set hd (h % size) l) in
+            written l q q' hs
+            (λ z.
+            sym (get_or_push ls l 0 (length hs) same) ∙ c.others (length hs) (omega (arith, long))
+            ∙ ap (λ x. newest (on_bucket more size (x % size)) (length hs)) own
+            ∙ front (h % size) (length hs) (omega arith)
+            ∙ ap (λ b. newest (on_bucket hs size b) (length hs)) (sym z))
+            (λ ne. c.firsts q q' ∙ first_other q ne);
+        others =
+            subst (λ z. Nexts hs ls z) (sym (length-set hd (h % size) l))
+            (λ i li.
+            sym (get_or_append_left ls (l ∷ []) 0 i (omega arith)) ∙ c.others i (omega (arith, long))
+            ∙ ap (λ x. newest (on_bucket more size (x % size)) i) (get_or_append_left hs (h ∷ []) 0 i li)
+            ∙ front (get_or hs i 0 % size) i (omega arith));
+      }
+
+module _ {T : Type 0} (hash next : T → ℕ) (es : List T) (e : T) (hd : List ℕ) (some : hash e % length hd < length hd) where
+  same : length (map next es) ≡ length (map hash es)
+  same = omega (arith, length-map es next, length-map es hash)
+
+  -- one entry more, at the front of its bucket's chain
+  pub chained_push : next e ≡ get_or hd (hash e % length hd) 0 → Chained (map hash es) (map next es) hd → Chained (map hash (es ++ e ∷ [])) (map next (es ++ e ∷ [])) (set hd (hash e % length hd) (length es + 1))
+  chained_push link c =
+      rw (map_push hash es e, map_push next es e, ← length-map es hash)
+      (push_numbers (map hash es) (map next es) (hash e) (next e) hd same some link c)
 
   -- the last entry goes
-  pub heads_cut : (s : ℕ → ℕ) (hd : List ℕ) → f m % length hd < length hd → Nexts f s (m + 1) (length hd) → Heads f (m + 1) hd → Heads g m (set hd (f m % length hd) (s m))
-  unfolding on_bucket
-  heads_cut s hd l nh h q lq =
-      let b = f m % length hd in
-      let v = s m in
-      let q' : q < length hd = omega (arith, length-set hd b v) in
-      let P = on_bucket f (length hd) q in
-      let next : m + 1 ≡ suc m = omega arith in
-      let goal : get_or (set hd b v) q 0 ≡ newest P m =
-      ⊎_elim
-      (λ (z : q ≡ b).
-      ap (λ j. get_or (set hd b v) j 0) z ∙ get_or-set_same hd b v 0 l ∙ nh m (omega arith) ∙ ap (λ j. newest (on_bucket f (length hd) j) m) (sym z))
-      (λ (ne : q ≡ b → ⊥).
-      let away : P m ≡ false = ne_eqb (f m % length hd) q (λ z. ne (sym z)) in
-      get_or-set_other hd b q v 0 ne ∙ h q q' ∙ ap (newest P) next ∙ newest_past P m away)
-      (cases_eq q b)
-      in
-      goal ∙ sym (chain_agree g f m m (length hd) q kept (omega arith))
-      ∙ ap (λ z. newest (on_bucket g z q) m) (sym (length-set hd b v))
-
--- entries with the same hashes and links have the same chains
-module _ (f g : ℕ → ℕ) (n : ℕ) (same : Agree g f n) where
-  pub heads_agree : (hd : List ℕ) → Heads f n hd → Heads g n hd
-  heads_agree hd h b l = h b l ∙ sym (chain_agree g f n n (length hd) b same (omega arith))
-
-  pub nexts_agree : (s t : ℕ → ℕ) (size : ℕ) → Agree t s n → Nexts f s n size → Nexts g t n size
-  nexts_agree s t size links h = nexts_cut f g n same s t n size (omega arith) links h
+  pub chained_pop : Chained (map hash (es ++ e ∷ [])) (map next (es ++ e ∷ [])) hd → Chained (map hash es) (map next es) (set hd (hash e % length hd) (next e))
+  chained_pop c =
+      pop_numbers (map hash es) (map next es) (hash e) (next e) hd same some
+      (rw (map_push hash es e, map_push next es e) at c)

@@ -1,9 +1,8 @@
--- Equality and hash of a key that is two numbers.
-use Rattle.std.specs.Prelude.{ℕ, ◌+◌, ◌*◌, ◌%◌, ◌^◌, Bool, ◌&&◌, ◌==◌}
+-- The hash of a key, by what the key feeds a hasher. Nothing rests on which hash it is.
+use Rattle.std.specs.Prelude.{ℕ, ◌%◌, ◌^◌}
+use Rattle.std.specs.List.{fold}
+use Rattle.std.specs.Hash.{HashWrites}
+use Rattle.std.specs.Hash.FoldHasher.{initial, write, finish}
 
-abbrev pub both : ℕ → ℕ → ℕ → ℕ → Bool
-both a b x y = a == x && b == y
-
--- nothing rests on which hash it is
-unfoldable pub spread : ℕ → ℕ → ℕ
-spread a b = ((a * 0x9E37_79B1) % 2 ^ 32 + b) % 2 ^ 32
+unfoldable pub digest : {K : Type 0} → (K → HashWrites) → K → ℕ
+digest input k = finish (fold write initial (input k)) % 2 ^ 32

@@ -1,17 +1,21 @@
--- What a map means: its pairs, and its room; and that inserting is what a map's user takes it for.
-use Rattle.std.specs.Prelude.{◌≡◌, ℕ, min, Bool, cond, ◌&&◌, List, map, take, Some, ◌==◌}
+-- What a map's memory means: the pairs in the slots in use, and the room; and how it is indexed.
+use Rattle.std.specs.Prelude.{ℕ, ◌*◌, ◌≤◌, List, map, length, take}
 use Rattle.theory.specs.Limits.{most_entries}
-use Rattle.maps.specs.declared.map.Map.{Map}
-use Rattle.maps.specs.Pairs.{Pair, pair_of, found}
+use Rattle.maps.specs.declared.slot.Slot.{Slot}
+use Rattle.maps.specs.Chains.{Chained}
+use Rattle.maps.specs.Pairs.{Pair, pair, Table}
 
-abbrev pub pairs : {K V : Type 0} → Map K V → List (Pair K V)
-pairs m = map pair_of (take m.len m.slots.now)
+abbrev pub pair_of : {K V : Type 0} → Slot K V → Pair K V
+pair_of s = pair s.key s.value s.hash
 
--- how many pairs there is memory for: none without a bucket to find them by
-abbrev pub limited : ℕ → ℕ → ℕ
-limited slots buckets = cond (buckets == 0) 0 (min slots most_entries)
+-- what slots in use and a room mean
+abbrev pub table : {K V : Type 0} → List (Slot K V) → ℕ → Table K V
+table used limit = record { pairs = map pair_of used; room = limit }
 
--- where the insertion is accepted, the key and what is alike have the value, and nothing else changes
-abbrev pub ReadsAs : {K V : Type 0} (alike : K → K → Bool) (digest : K → ℕ) → List (Pair K V) → K → V → Bool → List (Pair K V) → Type 0
-ReadsAs {K = K} alike digest ps key value accepted qs =
-    (k : K) → found alike digest qs k ≡ cond (accepted && alike key k) (Some value) (found alike digest ps k)
+-- the first `len` slots are in use, of which there may be as many as `limit`, and the buckets index them
+pub record IsIndexed {K V : Type 0} (slots : List (Slot K V)) (buckets : List ℕ) (len limit : ℕ) : Type 0 where
+  pub within : len ≤ limit
+  pub few : limit ≤ most_entries
+  pub lent : limit ≤ length slots
+  pub indexed : limit ≤ most_entries * length buckets
+  pub chained : Chained (map (λ s. s.hash) (take len slots)) (map (λ s. s.next) (take len slots)) buckets

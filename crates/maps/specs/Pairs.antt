@@ -1,12 +1,11 @@
 -- What the calls of a map answer, over the list of its pairs in the order in which their keys were first inserted.
 -- A pair is kept with the digest (hash) of its key; keys that are alike have one digest.
-use Rattle.std.specs.Prelude.{ℕ, zero, suc, Bool, false, cond, ◌&&◌, List, [], ◌∷◌, ◌++◌, map, length, Some, None, Ok, Err, Option as Maybe, Result, ◌==◌, nat_lt, slice_index}
+use Rattle.std.specs.Prelude.{◌≡◌, ℕ, zero, suc, Bool, false, cond, ◌&&◌, List, [], ◌∷◌, ◌++◌, length, Some, None, Ok, Err, Option as Maybe, Result, ◌==◌, nat_lt}
 use Rattle.std.proofs.Math.Option.{Option, none, some}
 use Rattle.theory.specs.declared.words.StoreFault.{StoreFault}
 use Rattle.theory.specs.declared.words.StoreFault.TheVariants.{Full}
 use Rattle.theory.specs.Outcomes.{at}
-use Rattle.maps.specs.declared.slot.Slot.{Slot}
-use Rattle.maps.specs.Chains.{newest}
+use Rattle.maps.specs.Chains.{newest, place_of}
 
 pub record Pair (K V : Type 0) : Type 0 where
   pub key : K
@@ -16,15 +15,10 @@ pub record Pair (K V : Type 0) : Type 0 where
 abbrev pub pair : {K V : Type 0} → K → V → ℕ → Pair K V
 pair k v d = record { key = k; value = v; digest = d }
 
-abbrev pub pair_of : {K V : Type 0} → Slot K V → Pair K V
-pair_of s = pair s.key s.value s.hash
-
--- hashes and links of slots, by place
-abbrev pub hash_at : {K V : Type 0} → List (Slot K V) → ℕ → ℕ
-hash_at ss k = slice_index (map (λ s. s.hash) ss) k
-
-abbrev pub next_at : {K V : Type 0} → List (Slot K V) → ℕ → ℕ
-next_at ss k = slice_index (map (λ s. s.next) ss) k
+-- what a map is to its user: its pairs, and how many there may be
+pub record Table (K V : Type 0) : Type 0 where
+  pub pairs : List (Pair K V)
+  pub room : ℕ
 
 -- key and value of the pair at a place
 abbrev pub shown : {K V : Type 0} → Option (Pair K V) → Maybe (K × V)
@@ -50,22 +44,27 @@ module _ {K V : Type 0} (alike : K → K → Bool) (digest : K → ℕ) where
   unfoldable pub hit : List (Pair K V) → K → ℕ → Bool
   hit ps k i = agrees k (at ps i)
 
-  -- one more than the place of a key's pair, or 0
-  abbrev pub place : List (Pair K V) → K → ℕ
-  place ps k = newest (hit ps k) (length ps)
+  -- the place of a key's pair
+  abbrev pub place : List (Pair K V) → K → Maybe ℕ
+  place ps k = place_of (newest (hit ps k) (length ps))
 
-  abbrev pub value_at : List (Pair K V) → ℕ → Maybe V
-  value_at ps zero = None
-  value_at ps (suc i) = value_in (at ps i)
+  abbrev pub value_at : List (Pair K V) → Maybe ℕ → Maybe V
+  value_at ps None = None
+  value_at ps (Some i) = value_in (at ps i)
 
   -- the value of a key
   abbrev pub found : List (Pair K V) → K → Maybe V
   found ps k = value_at ps (place ps k)
 
   -- a key's value from now on: in place of its old value, or in a new pair at the end, if there is room (2)
-  abbrev pub insert_at : ℕ → List (Pair K V) → K → V → ℕ → Result (Unit {0}) StoreFault × List (Pair K V)
-  insert_at room ps k v zero = cond (nat_lt (length ps) room) (Ok tt, ps ++ pair k v (digest k) ∷ []) (Err Full, ps)
-  insert_at room ps k v (suc i) = (Ok tt, revalued ps i v)
+  abbrev pub insert_at : Table K V → K → V → Maybe ℕ → Result (Unit {0}) StoreFault × Table K V
+  insert_at t k v None = cond (nat_lt (length t.pairs) t.room) (Ok tt, record t { pairs = t.pairs ++ pair k v (digest k) ∷ [] }) (Err Full, t)
+  insert_at t k v (Some i) = (Ok tt, record t { pairs = revalued t.pairs i v })
 
-  unfoldable pub inserted : ℕ → List (Pair K V) → K → V → Result (Unit {0}) StoreFault × List (Pair K V)
-  inserted room ps k v = insert_at room ps k v (place ps k)
+  unfoldable pub inserted : Table K V → K → V → Result (Unit {0}) StoreFault × Table K V
+  inserted t k v = insert_at t k v (place t.pairs k)
+
+  -- where the insertion is accepted, the key and what is alike have the value, and nothing else changes
+  abbrev pub ReadsAs : List (Pair K V) → K → V → Bool → List (Pair K V) → Type 0
+  ReadsAs ps key value accepted qs =
+      (k : K) → found qs k ≡ cond (accepted && alike key k) (Some value) (found ps k)

@@ -2,13 +2,10 @@
 mod calls;
 mod makes;
 
-ghost use Rattle.std.specs.Prelude.{ℕ, ◌*◌, ◌≤◌, length};
-ghost use Rattle.theory.specs.Limits.{most_entries};
-ghost use Rattle.maps.specs.Chains.{Heads, Nexts};
-ghost use Rattle.maps.specs.Pairs.{hash_at, next_at};
-
 use crate::slot::Slot;
+use std::marker::Model;
 
+// Lent memory, so slices with the length in use beside them stand here, and no Vec: a map never allocates.
 #[derive(Drop)]
 pub struct Map<'a, K, V> {
     slots: &'a mut [Slot<K, V>],
@@ -16,10 +13,17 @@ pub struct Map<'a, K, V> {
     // how many slots are in use, and how many may be
     len: usize,
     limit: usize,
-    ghost within: { len ≤ limit },
-    ghost few: { limit ≤ most_entries },
-    ghost lent: { limit ≤ length slots.now },
-    ghost indexed: { limit ≤ most_entries * length buckets.now },
-    ghost firsts: { Heads (hash_at slots.now) len buckets.now },
-    ghost others: { Nexts (hash_at slots.now) (next_at slots.now) len (length buckets.now) },
+}
+
+impl<'a, K, V> Model for Map<'a, K, V> {
+    ghost use Rattle.std.specs.Prelude.{take};
+    ghost use Rattle.maps.specs.Pairs.{Table};
+
+    ghost Value = { Table K V };
+
+    ghost use Rattle.maps.specs.Means.{table, IsIndexed};
+
+    ghost view = { λ m. table (take m.len m.slots.now) m.limit };
+
+    ghost invariant = { λ m. IsIndexed m.slots.now m.buckets.now m.len m.limit };
 }

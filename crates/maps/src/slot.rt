@@ -1,6 +1,8 @@
 // One slot of a map's memory.
 ghost use Rattle.std.specs.Prelude.{◌≡◌};
 
+use crate::chain::Linked;
+
 // A key with its value. A caller lends a slice of these, and what they hold before does not matter.
 #[derive(Clone, Copy)]
 pub struct Slot<K, V> {
@@ -22,5 +24,19 @@ impl<K: Copy, V: Copy> Slot<K, V> {
             hash: 0,
             next: 0,
         }
+    }
+}
+
+impl<K, V> Linked for Slot<K, V> {
+    ghost hash_of = { λ s. s.hash };
+
+    ghost next_of = { λ s. s.next };
+
+    fn hash(&self) -> u32 {
+        self.hash
+    }
+
+    fn next(&self) -> u32 {
+        self.next
     }
 }

@@ -14,6 +14,8 @@ use Rattle.theory.specs.Folds.{Folded, folded, FoldedAll, folded_all, fold_all, 
 use Rattle.theory.specs.Applying.{fill_leaf, fill}
 use Rattle.theory.proofs.Growth.{grown_same, grown-then}
 use Rattle.theory.proofs.Holding.{Put, put_ok, stays_at, below, read_at}
+use Rattle.std.specs.Hash.{u32}
+use Rattle.maps.specs.Keys.{digest}
 use Rattle.maps.specs.Pairs.{Pair, found as cached}
 use Rattle.maps.proofs.Elements.{at_in}
 use Rattle.terms.proofs.Places.{Below, trees-at}
@@ -57,13 +59,13 @@ right_stays c d ns ps g a right k r e =
 
 -- and with one result more
 pub right_more : (c d : Contents) (ns : List ℕ) (n r : ℕ) (ps qs : List (Pair ℕ ℕ)) (accepted : Bool) → AllNamed c.trees ns → n < length c.trees → Filled c ns n (Ok r) d → Right d ns ps
-    → ((k : ℕ) → cached eqb (λ x. x) qs k ≡ cond (accepted && eqb n k) (Some r) (cached eqb (λ x. x) ps k)) → Right d ns qs
+    → ((k : ℕ) → cached eqb (digest u32) qs k ≡ cond (accepted && eqb n k) (Some r) (cached eqb (digest u32) ps k)) → Right d ns qs
 right_more c d ns n r ps qs accepted a l filled right law k q e =
     ⊎_elim
     (λ (y : (accepted && eqb n k) ≡ true).
     let vs = values_at c.trees ns in
     let g : Grown c d = fill-grown vs (get_or c.trees n nil) c (folded (get_or d.trees r nil) tt d) filled.1 in
-    let same : r ≡ q = let z : Some r ≡ Some q = sym (law k ∙ cond-true (accepted && eqb n k) (Some r) (cached eqb (λ x. x) ps k) y) ∙ e in cc in
+    let same : r ≡ q = let z : Some r ≡ Some q = sym (law k ∙ cond-true (accepted && eqb n k) (Some r) (cached eqb (digest u32) ps k) y) ∙ e in cc in
     let own : n ≡ k = eqb-true n k (second accepted (eqb n k) y) in
     let t = tree_stays c d n g l in (
       subst (λ i. i < length d.trees) own t.0,
@@ -74,7 +76,7 @@ right_more c d ns n r ps qs accepted a l filled right law k q e =
           ∙ fill-again vs (get_or c.trees n nil) c (folded (get_or d.trees r nil) tt d) d filled.1 (grown_same d)
           ∙ ap (λ i. Ok (folded (get_or d.trees i nil) tt d)) same,
     ))
-    (λ (n : (accepted && eqb n k) ≡ false). right k q (sym (law k ∙ cond-false (accepted && eqb _ k) (Some r) (cached eqb (λ x. x) ps k) n) ∙ e))
+    (λ (n : (accepted && eqb n k) ≡ false). right k q (sym (law k ∙ cond-false (accepted && eqb _ k) (Some r) (cached eqb (digest u32) ps k) n) ∙ e))
     (cases_Bool (accepted && eqb n k))
   where
     second : (x y : Bool) → (x && y) ≡ true → y ≡ true

@@ -8,6 +8,8 @@ use Rattle.theory.specs.Trees.{Tree, nil}
 use Rattle.theory.specs.Store.{Contents, found, handle, Grown}
 use Rattle.theory.specs.Folds.{folded}
 use Rattle.theory.specs.Applying.{fill}
+use Rattle.std.specs.Hash.{u32}
+use Rattle.maps.specs.Keys.{digest}
 use Rattle.maps.specs.Pairs.{Pair, found as cached}
 use Rattle.walks.specs.declared.fault.SubstituteFault.{SubstituteFault}
 use Rattle.walks.specs.declared.fault.SubstituteFault.TheVariants.{Store, NoValue, WrongSort}
@@ -48,4 +50,4 @@ Filled c ns n (Err f) d = (fill (values_at c.trees ns) (slice_index_or c.trees n
 -- every result in the cache is what filling in gives, now and from now on
 abbrev pub Right : Contents → List ℕ → List (Pair ℕ ℕ) → Type 0
 Right c ns ps =
-    (k r : ℕ) → cached nat_eq (λ x. x) ps k ≡ Some r → (k < length c.trees) × (r < length c.trees) × (fill (values_at c.trees ns) (slice_index_or c.trees k nil) c ≡ Ok (folded (slice_index_or c.trees r nil) tt c))
+    (k r : ℕ) → cached nat_eq (digest u32) ps k ≡ Some r → (k < length c.trees) × (r < length c.trees) × (fill (values_at c.trees ns) (slice_index_or c.trees k nil) c ≡ Ok (folded (slice_index_or c.trees r nil) tt c))

@@ -1,14 +1,10 @@
-use Rattle.std.proofs.Common.{sym, ap, arith}
+use Rattle.std.proofs.Common.{sym, ap}
 use Rattle.maps.specs.Pairs.{shown}
-use Rattle.maps.proofs.Slots.{pair_in, pair_out}
+use Rattle.maps.proofs.Tables.{pair_at, no_pair_at}
 use Rattle.maps.proofs.map.Map.pair.Goals as goal
 
 pub returns-then-place-self : goal.returns-then-place-self
-returns-then-place-self g c =
-    let m = c.args.self.now in
-    sym (ap shown (pair_out m.slots.now m.len (omega (arith, m.within, m.lent)) c.args.place c.if-place-self.true))
+returns-then-place-self g c = sym (ap shown (no_pair_at c.self.invariant c.self.view_is c.args.place c.if-place-self.true))
 
 pub returns : goal.returns
-returns g c =
-    let m = c.args.self.now in
-    sym (ap shown (pair_in m.slots.now m.len (omega (arith, m.within, m.lent)) c.args.place c.slot-slot.result c.if-place-self.false c.slot-slot.ensures))
+returns g c = sym (ap shown (pair_at c.self.invariant c.self.view_is c.args.place _ c.if-place-self.false))
