@@ -47,10 +47,8 @@ impl Store<'_> {
         ensures limit { self.new.limit ≡ self.old.limit }
         ensures room { self.new.room ≡ self.old.room }
     {
-        for k in 0..parts.len() {
-            let at = self.used + k;
-            self.items[at] = parts[k];
-        }
+        let used = self.used;
+        self.items[used..used + parts.len()].copy_from_slice(parts);
     }
 
     // One more entry, at the front of its bucket's chain.
@@ -125,8 +123,8 @@ impl Store<'_> {
             flags: Flags { bits: 0 },
             outer: 0,
         };
-        for k in 0..parts.len() {
-            let e = self.entry(parts[k])?;
+        for (k, part) in parts.iter().enumerate() {
+            let e = self.entry(*part)?;
             if !takes_part(head, k, e.node) {
                 return Err(StoreFault::BadPart(k));
             }
