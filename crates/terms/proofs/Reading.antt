@@ -1,21 +1,23 @@
 -- What is read of an entry is what its tree says.
-use Rattle.std.proofs.Common.{◌≡◌, ℕ, ◌+◌, ◌<◌, ◌≤◌, eqb, List, length, get_or, take, drop, Ok, Err, Result, sym, refl, ap, ◌∙◌, subst, arith}
+use Rattle.std.proofs.Common.{◌≡◌, ℕ, ◌+◌, ◌<◌, ◌≤◌, zero, suc, eqb, List, [], ◌∷◌, map, length, get_or, take, drop, Ok, Err, Result, sym, refl, ap, ◌∙◌, subst, arith}
 use mathlib.Core.Option.{none, some}
-use Rattle.std.proofs.lemmas.List.{length-map, get_or-map, get_or-take, get_or-drop, length-take-le, length-drop}
+use Rattle.std.specs.List.{slice_get}
+use Rattle.std.specs.Option.{ok_or}
+use Rattle.std.proofs.lemmas.List.{drop-take, take-take}
 use Rattle.std.proofs.lemmas.Bool.{eq-eqb, ne_eqb}
 use Rattle.theory.specs.declared.words.Node.{Node}
 use Rattle.theory.specs.declared.words.StoreFault.{StoreFault}
 use Rattle.theory.specs.declared.words.StoreFault.TheVariants.{NoSuch, BadPart}
 use Rattle.theory.specs.Outcomes.{at, given, ◌>>=◌, test}
 use Rattle.theory.specs.Trees.{Tree, nil, tree?, parts, seen, node_sort, facts, height, flags}
-use Rattle.theory.specs.Store.{found, handle, get, part, sort_at, facts_at, OneHandle}
+use Rattle.theory.specs.Store.{found, handle, get, part, parts_at, sort_at, facts_at, OneHandle}
 use Rattle.terms.specs.declared.memory.entry.Entry.{Entry}
 use Rattle.terms.specs.declared.store.Store.{Store}
 use Rattle.terms.specs.Memory.{vacant, handles_at}
 use Rattle.theory.specs.Trees.{part_count as count}
 use Rattle.terms.specs.Means.{trees}
 use Rattle.terms.specs.Reads.{same_at}
-use Rattle.terms.proofs.Places.{at_in, at_out, trees-at, below_at}
+use Rattle.terms.proofs.Places.{Below, at_in, at_out, trees-at, handles-back}
 use Rattle.terms.proofs.Cells.{length-held, own_proper, own_tree, seen_of, parts_of, proper_below}
 use Rattle.terms.proofs.Pushed.{pool_of, entries_of, length_pool}
 
@@ -38,6 +40,10 @@ module _ (s : Store) (i : ℕ) (l : i < length (entries_of s)) where
   pub parts_here : parts (get_or (trees s) i nil) ≡ trees-at (trees s) (handles_at (pool_of s) (entries_of s) i)
   parts_here = ap parts (own_tree (pool_of s) (entries_of s) s.kept s.fitted i l) ∙ parts_of _ _ (own_proper (pool_of s) (entries_of s) s.kept s.fitted i l)
 
+-- a range of the first elements is that of all
+range-of-front : (xs : List ℕ) (i k n : ℕ) → i + k ≤ n → take k (drop i (take n xs)) ≡ take k (drop i xs)
+range-of-front xs i k n l = sym (drop-take i k (take n xs)) ∙ ap (drop i) (take-take (i + k) n xs l) ∙ drop-take i k xs
+
 -- The answers of the calls that read, from what was found in memory
 
 pub missing_at : {X : Type 0} (s : Store) (n : ℕ) (f : StoreFault) (g : Tree → Result X StoreFault) → (length (entries_of s) ≤ n) × (f ≡ NoSuch n) → Err f ≡ (found (trees s) n >>= g)
@@ -59,9 +65,9 @@ module _ (s : Store) (n : ℕ) (f : StoreFault) (h : (length (entries_of s) ≤ 
   unfolding sort_at
   sort_err = ap (λ (r : Result Node StoreFault). r >>= λ v. Ok (node_sort v)) get_err
 
-  pub part_err : (k : ℕ) → Err f ≡ part (trees s) n k
-  unfolding part
-  part_err k = missing_at s n f (λ t. given (at (parts t) k) (BadPart k) >>= λ u. Ok (handle (trees s) u)) h
+  pub parts_err : Err f ≡ parts_at (trees s) n
+  unfolding parts_at
+  parts_err = missing_at s n f (λ t. Ok (map (handle (trees s)) (parts t))) h
 
 module _ (s : Store) (n : ℕ) (e : Entry) (h : (n < length (entries_of s)) × (e ≡ get_or (entries_of s) n vacant)) where
   pub get_ok : Ok e.node ≡ get (trees s) n
@@ -79,52 +85,44 @@ module _ (s : Store) (n : ℕ) (e : Entry) (h : (n < length (entries_of s)) × (
   within : e.first + count e.node ≤ length (pool_of s)
   within = subst (λ (x : Entry). x.first + count x.node ≤ length (pool_of s)) (sym h.1) (s.kept n h.0).0
 
-  handles_here : handles_at (pool_of s) (entries_of s) n ≡ take (count e.node) (drop e.first (pool_of s))
-  handles_here = ap (λ (x : Entry). take (count x.node) (drop x.first (pool_of s))) (sym h.1)
-
-  many : length (handles_at (pool_of s) (entries_of s) n) ≡ count e.node
-  many =
-      let l : count e.node ≤ length (drop e.first (pool_of s)) = omega (arith, within, length-drop e.first (pool_of s)) in
-      ap length handles_here ∙ length-take-le (count e.node) (drop e.first (pool_of s)) l
-
-  -- where the part at a place stands in the items
-  pub part_in : (k : ℕ) → k < count e.node → e.first + k < s.used
-  part_in k l = omega (arith, within, length_pool s)
-
-  pub part_none : (k : ℕ) → count e.node ≤ k → Err (BadPart k) ≡ part (trees s) n k
-  unfolding part
-  part_none k l =
-      let ts = trees-at (trees s) (handles_at (pool_of s) (entries_of s) n) in
-      let out : length ts ≤ k = omega (arith, many, length-map (handles_at (pool_of s) (entries_of s) n) (λ j. get_or (trees s) j nil)) in
-      present_at s n (Err (BadPart k)) (λ t. given (at (parts t) k) (BadPart k) >>= λ u. Ok (handle (trees s) u)) h.0
-      (sym (ap (λ us. given (at us k) (BadPart k) >>= λ u. Ok (handle (trees s) u)) (parts_here s n h.0) ∙ ap (λ o. given o (BadPart k) >>= λ u. Ok (handle (trees s) u)) (at_out ts k out)))
-
-  pub part_some : (k : ℕ) → k < count e.node → Ok (get_or s.items.now (e.first + k) 0) ≡ part (trees s) n k
-  unfolding part
-  part_some k l =
+  -- its parts are those of its tree, by their handles
+  pub parts_ok : Ok (take (count e.node) (drop e.first s.items.now)) ≡ parts_at (trees s) n
+  unfolding parts_at
+  parts_ok =
       let hs = handles_at (pool_of s) (entries_of s) n in
-      let ts = trees-at (trees s) hs in
-      let lh : k < length hs = omega (arith, many) in
-      let lt : k < length ts = omega (arith, many, length-map hs (λ j. get_or (trees s) j nil)) in
-      let own : get_or hs k 0 ≡ get_or s.items.now (e.first + k) 0 =
-      ap (λ xs. get_or xs k 0) handles_here
-      ∙ get_or-take (count e.node) (drop e.first (pool_of s)) k 0 l
-      ∙ get_or-drop e.first (pool_of s) k 0
-      ∙ get_or-take s.used s.items.now (e.first + k) 0 (part_in k l)
+      let here : hs ≡ take (count e.node) (drop e.first s.items.now) =
+      ap (λ (x : Entry). take (count x.node) (drop x.first (pool_of s))) (sym h.1) ∙ range-of-front s.items.now e.first (count e.node) s.used (omega (arith, within, length_pool s))
       in
-      let low : get_or hs k 0 < length (trees s) = below_at (length (trees s)) hs k (proper_below (trees s) _ (own_proper (pool_of s) (entries_of s) s.kept s.fitted n h.0)) lh in
-      let back : handle (trees s) (get_or ts k nil) ≡ get_or hs k 0 = ap (handle (trees s)) (get_or-map (λ j. get_or (trees s) j nil) hs k 0 nil lh) ∙ s.sole (get_or hs k 0) low in
-      present_at s n (Ok (get_or s.items.now (e.first + k) 0)) (λ t. given (at (parts t) k) (BadPart k) >>= λ u. Ok (handle (trees s) u)) h.0
-      (sym
-      (ap (λ us. given (at us k) (BadPart k) >>= λ u. Ok (handle (trees s) u)) (parts_here s n h.0)
-      ∙ ap (λ o. given o (BadPart k) >>= λ u. Ok (handle (trees s) u)) (at_in ts k lt)
-      ∙ ap Ok (back ∙ own)))
+      let below : Below (length (trees s)) hs = proper_below (trees s) _ (own_proper (pool_of s) (entries_of s) s.kept s.fitted n h.0) in
+      present_at s n (Ok (take (count e.node) (drop e.first s.items.now))) (λ t. Ok (map (handle (trees s)) (parts t))) h.0
+      (ap Ok (sym here ∙ sym (handles-back (trees s) hs s.sole below) ∙ ap (map (handle (trees s))) (sym (parts_here s n h.0))))
 
-  pub part_lent : (k : ℕ) → k < count e.node → e.first + k < length s.items.now
-  part_lent k l = omega (arith, part_in k l, s.inside, s.lent_items)
+  pub parts_lent : e.first + count e.node ≤ length s.items.now
+  parts_lent = omega (arith, within, length_pool s, s.inside, s.lent_items)
 
-  pub parts_few : e.first + count e.node ≤ 16776960
-  parts_few = omega (arith, within, length_pool s, s.inside, s.few_items)
+-- the part at a place is that place of the parts
+
+placed_part : (f : Tree → ℕ) (fault : StoreFault) (ts : List Tree) (k : ℕ) → ok_or (slice_get (map f ts) k) fault ≡ (given (at ts k) fault >>= λ u. Ok (f u))
+placed_part f fault [] k = refl
+placed_part f fault (t ∷ ts) zero = refl
+placed_part f fault (t ∷ ts) (suc k) = placed_part f fault ts k
+
+module _ (m : List Tree) (n k : ℕ) where
+  from_found : (r : Result Tree StoreFault) → (hs : List ℕ) → Ok hs ≡ (r >>= λ t. Ok (map (handle m) (parts t))) → ok_or (slice_get hs k) (BadPart k) ≡ (r >>= λ t. given (at (parts t) k) (BadPart k) >>= λ u. Ok (handle m u))
+  from_found (Ok t) hs e = let same : hs ≡ map (handle m) (parts t) = cc in ap (λ xs. ok_or (slice_get xs k) (BadPart k)) same ∙ placed_part (handle m) (BadPart k) (parts t) k
+  from_found (Err f) hs e = let z : ◌≡◌ {A = ℕ} 0 1 = cc in absurd (omega arith)
+
+  pub part_of_parts : (hs : List ℕ) → Ok hs ≡ parts_at m n → ok_or (slice_get hs k) (BadPart k) ≡ part m n k
+  unfolding parts_at part
+  part_of_parts hs e = from_found (found m n) hs e
+
+  from_missing : (r : Result Tree StoreFault) → (f : StoreFault) → Err f ≡ (r >>= λ t. Ok (map (handle m) (parts t))) → Err f ≡ (r >>= λ t. given (at (parts t) k) (BadPart k) >>= λ u. Ok (handle m u))
+  from_missing (Ok t) f e = let z : ◌≡◌ {A = ℕ} 0 1 = cc in absurd (omega arith)
+  from_missing (Err g) f e = let same : f ≡ g = cc in ap Err same
+
+  pub part_refused : (f : StoreFault) → Err f ≡ parts_at m n → Err f ≡ part m n k
+  unfolding parts_at part
+  part_refused f e = from_missing (found m n) f e
 
 -- equal terms have one handle
 

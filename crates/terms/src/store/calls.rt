@@ -1,6 +1,6 @@
 // The calls that read, and cutting back.
-ghost use Rattle.std.specs.Prelude.{◌≡◌, take};
-ghost use Rattle.theory.specs.Store.{get as read, part as part_at, facts_at, sort_at};
+ghost use Rattle.std.specs.Prelude.{◌≡◌, take, Ok, Err, MatchResult};
+ghost use Rattle.theory.specs.Store.{get as read, part as part_at, parts_at, facts_at, sort_at};
 ghost use Rattle.terms.specs.Reads.{ReadAt, Reads, same_at};
 ghost use Rattle.terms.specs.Means.{trees};
 
@@ -28,15 +28,22 @@ impl Store<'_> {
         Ok(self.entry(term)?.node)
     }
 
-    // The part of a term at a place: an element of a list, the argument list of a constructor.
+    // The parts of a term, in order: the elements of a list, the argument list of a constructor.
+    pub fn parts(&self, term: Handle) -> Result<&[Handle], StoreFault>
+        ensures { MatchResult result (λ parts. Ok parts.now ≡ parts_at (trees self.now) term) (λ fault. Err fault ≡ parts_at (trees self.now) term) }
+    {
+        let e = self.entry(term)?;
+        let first = e.first as usize;
+        Ok(&self.items[first..first + e.node.count()])
+    }
+
+    // The part of a term at a place.
+    #[tactic(auto, using(crate::proofs::Reading::part_refused))]
     pub fn part(&self, term: Handle, place: usize) -> Result<Handle, StoreFault>
         ensures { result ≡ part_at (trees self.now) term place }
     {
-        let e = self.entry(term)?;
-        if place >= e.node.count() {
-            return Err(StoreFault::BadPart(place));
-        }
-        Ok(self.items[e.first as usize + place])
+        let parts = self.parts(term)?;
+        parts.get(place).copied().ok_or(StoreFault::BadPart(place))
     }
 
     // The height of a term, its flags and its outermost bound depth.

@@ -3,7 +3,7 @@ use Rattle.std.proofs.lemmas.List.{get_or-take}
 use Rattle.terms.specs.Memory.{vacant}
 use Rattle.terms.specs.Means.{trees}
 use Rattle.terms.proofs.Pushed.{entries_of, length-entries}
-use Rattle.terms.proofs.Reading.{get_err, facts_err, sort_err, part_err, get_ok, facts_ok, sort_ok, part_some, part_none, part_lent, parts_few, length-trees, same_ok, same_left, same_right}
+use Rattle.terms.proofs.Reading.{get_err, facts_err, sort_err, parts_err, get_ok, facts_ok, sort_ok, parts_ok, parts_lent, length-trees, same_ok, same_left, same_right}
 use Rattle.terms.proofs.store.Store.entry.Goals as goal
 
 pub returns-then-at-self : goal.returns-then-at-self
@@ -18,7 +18,7 @@ returns-then-at-self c =
         get_err s n _ (out, refl),
         facts_err s n _ (out, refl),
         sort_err s n _ (out, refl),
-        part_err s n _ (out, refl),
+        parts_err s n _ (out, refl),
         λ q. same_left s n q _ refl far,
         λ p l. same_right s p n _ refl l far,
       );
@@ -38,10 +38,8 @@ returns c =
         get_ok s n _ r,
         facts_ok s n _ r,
         sort_ok s n _ r,
-        part_some s n _ r,
-        part_none s n _ r,
-        part_lent s n _ r,
-        parts_few s n _ r,
+        parts_ok s n _ r,
+        parts_lent s n _ r,
         near,
         λ q l. same_ok s n q near l,
       );
