@@ -12,33 +12,36 @@ use Rattle.theory.specs.Outcomes.{at, given, ◌>>=◌, test}
 use Rattle.theory.specs.Trees.{Tree, nil, tree?, parts, seen, node_sort, facts, height, flags}
 use Rattle.theory.specs.Store.{found, handle, get, part, parts_at, sort_at, facts_at, OneHandle}
 use Rattle.terms.specs.declared.memory.entry.Entry.{Entry}
-use Rattle.terms.specs.declared.store.Store.{Store}
-use Rattle.terms.specs.Memory.{vacant, handles_at}
+use Rattle.terms.specs.declared.store.Store.TheInside.{Inside}
+use Rattle.terms.specs.Memory.{vacant, cell_of, handles_at}
 use Rattle.theory.specs.Trees.{part_count as count}
-use Rattle.terms.specs.Means.{trees}
-use Rattle.terms.specs.Reads.{same_at}
+use Rattle.terms.specs.Means.{pool_of, entries_of, trees_of, means, IsIntact}
+use Rattle.terms.specs.Whole.{IsMade, IsWhole}
+use Rattle.terms.proofs.Stands.{parts_many}
+use Rattle.terms.specs.Reads.{ReadAt, Reads, same_at}
+use Rattle.theory.specs.Limits.{highest, longest}
 use Rattle.terms.proofs.Places.{Below, at_in, at_out, trees-at, handles-back}
-use Rattle.terms.proofs.Cells.{length-held, own_proper, own_tree, seen_of, parts_of, proper_below}
-use Rattle.terms.proofs.Pushed.{pool_of, entries_of, length_pool}
+use Rattle.terms.proofs.Cells.{length-held, own_before, own_proper, own_tree_before, own_tree, seen_of, parts_of, proper_below}
+use Rattle.terms.proofs.Pushed.{length_pool}
 
-pub length-trees : (s : Store) → length (trees s) ≡ length (entries_of s)
+pub length-trees : (s : Inside) → length (trees_of s) ≡ length (entries_of s)
 length-trees s = length-held (pool_of s) (entries_of s)
 
-module _ (s : Store) (i : ℕ) (l : i < length (entries_of s)) where
-  pub seen_at : seen (get_or (trees s) i nil) ≡ (get_or (entries_of s) i vacant).node
-  seen_at = ap seen (own_tree (pool_of s) (entries_of s) s.kept s.fitted i l) ∙ seen_of _ _ (own_proper (pool_of s) (entries_of s) s.kept s.fitted i l)
+module _ (s : Inside) (w : IsIntact s) (i : ℕ) (l : i < length (entries_of s)) where
+  pub seen_at : seen (get_or (trees_of s) i nil) ≡ (get_or (entries_of s) i vacant).node
+  seen_at = ap seen (own_tree (pool_of s) (entries_of s) w.sound.kept w.sound.fitted i l) ∙ seen_of _ _ (own_proper (pool_of s) (entries_of s) w.sound.kept w.sound.fitted i l)
 
-  pub facts_here : facts (get_or (trees s) i nil) ≡ (get_or (entries_of s) i vacant).facts
+  pub facts_here : facts (get_or (trees_of s) i nil) ≡ (get_or (entries_of s) i vacant).facts
   facts_here =
-      let t = get_or (trees s) i nil in
+      let t = get_or (trees_of s) i nil in
       let f = (get_or (entries_of s) i vacant).facts in
       sym
-      (ap (λ (k : ℕ). record { height = k; flags = f.flags; outer = f.outer }) (s.known i l).0
-      ∙ ap (λ (k : ℕ). record { height = height t; flags = record { bits = k }; outer = f.outer }) (s.known i l).1
-      ∙ ap (λ (k : ℕ). record { height = height t; flags = record { bits = flags t }; outer = k }) (s.deep i l))
+      (ap (λ (k : ℕ). record { height = k; flags = f.flags; outer = f.outer }) (w.sound.known i l).0
+      ∙ ap (λ (k : ℕ). record { height = height t; flags = record { bits = k }; outer = f.outer }) (w.sound.known i l).1
+      ∙ ap (λ (k : ℕ). record { height = height t; flags = record { bits = flags t }; outer = k }) (w.sound.deep i l))
 
-  pub parts_here : parts (get_or (trees s) i nil) ≡ trees-at (trees s) (handles_at (pool_of s) (entries_of s) i)
-  parts_here = ap parts (own_tree (pool_of s) (entries_of s) s.kept s.fitted i l) ∙ parts_of _ _ (own_proper (pool_of s) (entries_of s) s.kept s.fitted i l)
+  pub parts_here : parts (get_or (trees_of s) i nil) ≡ trees-at (trees_of s) (handles_at (pool_of s) (entries_of s) i)
+  parts_here = ap parts (own_tree (pool_of s) (entries_of s) w.sound.kept w.sound.fitted i l) ∙ parts_of _ _ (own_proper (pool_of s) (entries_of s) w.sound.kept w.sound.fitted i l)
 
 -- a range of the first elements is that of all
 range-of-front : (xs : List ℕ) (i k n : ℕ) → i + k ≤ n → take k (drop i (take n xs)) ≡ take k (drop i xs)
@@ -46,59 +49,59 @@ range-of-front xs i k n l = sym (drop-take i k (take n xs)) ∙ ap (drop i) (tak
 
 -- The answers of the calls that read, from what was found in memory
 
-pub missing_at : {X : Type 0} (s : Store) (n : ℕ) (f : StoreFault) (g : Tree → Result X StoreFault) → (length (entries_of s) ≤ n) × (f ≡ NoSuch n) → Err f ≡ (found (trees s) n >>= g)
-missing_at s n f g h = ap Err h.1 ∙ ap (λ o. given o (NoSuch n) >>= g) (sym (at_out (trees s) n (omega (arith, h.0, length-trees s))))
+pub missing_at : {X : Type 0} (s : Inside) (n : ℕ) (f : StoreFault) (g : Tree → Result X StoreFault) → (length (entries_of s) ≤ n) × (f ≡ NoSuch n) → Err f ≡ (found (trees_of s) n >>= g)
+missing_at s n f g h = ap Err h.1 ∙ ap (λ o. given o (NoSuch n) >>= g) (sym (at_out (trees_of s) n (omega (arith, h.0, length-trees s))))
 
-pub present_at : {X : Type 0} (s : Store) (n : ℕ) (r : Result X StoreFault) (g : Tree → Result X StoreFault) → n < length (entries_of s) → r ≡ g (get_or (trees s) n nil) → r ≡ (found (trees s) n >>= g)
-present_at s n r g l e = e ∙ ap (λ o. given o (NoSuch n) >>= g) (sym (at_in (trees s) n (omega (arith, length-trees s))))
+pub present_at : {X : Type 0} (s : Inside) (n : ℕ) (r : Result X StoreFault) (g : Tree → Result X StoreFault) → n < length (entries_of s) → r ≡ g (get_or (trees_of s) n nil) → r ≡ (found (trees_of s) n >>= g)
+present_at s n r g l e = e ∙ ap (λ o. given o (NoSuch n) >>= g) (sym (at_in (trees_of s) n (omega (arith, length-trees s))))
 
-module _ (s : Store) (n : ℕ) (f : StoreFault) (h : (length (entries_of s) ≤ n) × (f ≡ NoSuch n)) where
-  pub get_err : Err f ≡ get (trees s) n
+module _ (s : Inside) (w : IsIntact s) (n : ℕ) (f : StoreFault) (h : (length (entries_of s) ≤ n) × (f ≡ NoSuch n)) where
+  pub get_err : Err f ≡ get (trees_of s) n
   unfolding get
   get_err = missing_at s n f (λ t. Ok (seen t)) h
 
-  pub facts_err : Err f ≡ facts_at (trees s) n
+  pub facts_err : Err f ≡ facts_at (trees_of s) n
   unfolding facts_at
   facts_err = missing_at s n f (λ t. Ok (facts t)) h
 
-  pub sort_err : Err f ≡ sort_at (trees s) n
+  pub sort_err : Err f ≡ sort_at (trees_of s) n
   unfolding sort_at
   sort_err = ap (λ (r : Result Node StoreFault). r >>= λ v. Ok (node_sort v)) get_err
 
-  pub parts_err : Err f ≡ parts_at (trees s) n
+  pub parts_err : Err f ≡ parts_at (trees_of s) n
   unfolding parts_at
-  parts_err = missing_at s n f (λ t. Ok (map (handle (trees s)) (parts t))) h
+  parts_err = missing_at s n f (λ t. Ok (map (handle (trees_of s)) (parts t))) h
 
-module _ (s : Store) (n : ℕ) (e : Entry) (h : (n < length (entries_of s)) × (e ≡ get_or (entries_of s) n vacant)) where
-  pub get_ok : Ok e.node ≡ get (trees s) n
+module _ (s : Inside) (w : IsIntact s) (n : ℕ) (e : Entry) (h : (n < length (entries_of s)) × (e ≡ get_or (entries_of s) n vacant)) where
+  pub get_ok : Ok e.node ≡ get (trees_of s) n
   unfolding get
-  get_ok = present_at s n (Ok e.node) (λ t. Ok (seen t)) h.0 (ap (λ (x : Entry). Ok x.node) h.1 ∙ ap Ok (sym (seen_at s n h.0)))
+  get_ok = present_at s n (Ok e.node) (λ t. Ok (seen t)) h.0 (ap (λ (x : Entry). Ok x.node) h.1 ∙ ap Ok (sym (seen_at s w n h.0)))
 
-  pub sort_ok : Ok (node_sort e.node) ≡ sort_at (trees s) n
+  pub sort_ok : Ok (node_sort e.node) ≡ sort_at (trees_of s) n
   unfolding sort_at
   sort_ok = ap (λ (r : Result Node StoreFault). r >>= λ v. Ok (node_sort v)) get_ok
 
-  pub facts_ok : Ok e.facts ≡ facts_at (trees s) n
+  pub facts_ok : Ok e.facts ≡ facts_at (trees_of s) n
   unfolding facts_at
-  facts_ok = present_at s n (Ok e.facts) (λ t. Ok (facts t)) h.0 (ap (λ (x : Entry). Ok x.facts) h.1 ∙ ap Ok (sym (facts_here s n h.0)))
+  facts_ok = present_at s n (Ok e.facts) (λ t. Ok (facts t)) h.0 (ap (λ (x : Entry). Ok x.facts) h.1 ∙ ap Ok (sym (facts_here s w n h.0)))
 
   within : e.first + count e.node ≤ length (pool_of s)
-  within = subst (λ (x : Entry). x.first + count x.node ≤ length (pool_of s)) (sym h.1) (s.kept n h.0).0
+  within = subst (λ (x : Entry). x.first + count x.node ≤ length (pool_of s)) (sym h.1) (w.sound.kept n h.0).0
 
   -- its parts are those of its tree, by their handles
-  pub parts_ok : Ok (take (count e.node) (drop e.first s.items.now)) ≡ parts_at (trees s) n
+  pub parts_ok : Ok (take (count e.node) (drop e.first s.items.now)) ≡ parts_at (trees_of s) n
   unfolding parts_at
   parts_ok =
       let hs = handles_at (pool_of s) (entries_of s) n in
       let here : hs ≡ take (count e.node) (drop e.first s.items.now) =
-      ap (λ (x : Entry). take (count x.node) (drop x.first (pool_of s))) (sym h.1) ∙ range-of-front s.items.now e.first (count e.node) s.used (omega (arith, within, length_pool s))
+      ap (λ (x : Entry). take (count x.node) (drop x.first (pool_of s))) (sym h.1) ∙ range-of-front s.items.now e.first (count e.node) s.used (omega (arith, within, length_pool s w))
       in
-      let below : Below (length (trees s)) hs = proper_below (trees s) _ (own_proper (pool_of s) (entries_of s) s.kept s.fitted n h.0) in
-      present_at s n (Ok (take (count e.node) (drop e.first s.items.now))) (λ t. Ok (map (handle (trees s)) (parts t))) h.0
-      (ap Ok (sym here ∙ sym (handles-back (trees s) hs s.sole below) ∙ ap (map (handle (trees s))) (sym (parts_here s n h.0))))
+      let below : Below (length (trees_of s)) hs = proper_below (trees_of s) _ (own_proper (pool_of s) (entries_of s) w.sound.kept w.sound.fitted n h.0) in
+      present_at s n (Ok (take (count e.node) (drop e.first s.items.now))) (λ t. Ok (map (handle (trees_of s)) (parts t))) h.0
+      (ap Ok (sym here ∙ sym (handles-back (trees_of s) hs w.sound.sole below) ∙ ap (map (handle (trees_of s))) (sym (parts_here s w n h.0))))
 
   pub parts_lent : e.first + count e.node ≤ length s.items.now
-  parts_lent = omega (arith, within, length_pool s, s.inside, s.lent_items)
+  parts_lent = omega (arith, within, length_pool s w, w.inside, w.lent_items)
 
 -- the part at a place is that place of the parts
 
@@ -133,21 +136,67 @@ same_test m a b one la lb = by (tree? (get_or m a nil) (get_or m b nil))
     by (yes e) = eq-eqb a b (sym (one a la) ∙ ap (handle m) e ∙ one b lb)
     by (no n) = ne_eqb a b (λ e. n (ap (λ k. get_or m k nil) e))
 
-module _ (s : Store) (a b : ℕ) where
-  pub same_ok : a < length (trees s) → b < length (trees s) → Ok (eqb a b) ≡ same_at (trees s) a b
+module _ (s : Inside) (w : IsIntact s) (a b : ℕ) where
+  pub same_ok : a < length (trees_of s) → b < length (trees_of s) → Ok (eqb a b) ≡ same_at (trees_of s) a b
   unfolding same_at
   same_ok la lb =
-      let p : at (trees s) a ≡ some (get_or (trees s) a nil) = at_in (trees s) a la in
-      let q : at (trees s) b ≡ some (get_or (trees s) b nil) = at_in (trees s) b lb in
-      ap Ok (same_test (trees s) a b s.sole la lb) ∙ rw (p, q) refl
+      let p : at (trees_of s) a ≡ some (get_or (trees_of s) a nil) = at_in (trees_of s) a la in
+      let q : at (trees_of s) b ≡ some (get_or (trees_of s) b nil) = at_in (trees_of s) b lb in
+      ap Ok (same_test (trees_of s) a b w.sound.sole la lb) ∙ rw (p, q) refl
 
-  pub same_left : (f : StoreFault) → f ≡ NoSuch a → length (trees s) ≤ a → Err f ≡ same_at (trees s) a b
+  pub same_left : (f : StoreFault) → f ≡ NoSuch a → length (trees_of s) ≤ a → Err f ≡ same_at (trees_of s) a b
   unfolding same_at
-  same_left f e l = let p : at (trees s) a ≡ none = at_out (trees s) a l in ap Err e ∙ rw p refl
+  same_left f e l = let p : at (trees_of s) a ≡ none = at_out (trees_of s) a l in ap Err e ∙ rw p refl
 
-  pub same_right : (f : StoreFault) → f ≡ NoSuch b → a < length (trees s) → length (trees s) ≤ b → Err f ≡ same_at (trees s) a b
+  pub same_right : (f : StoreFault) → f ≡ NoSuch b → a < length (trees_of s) → length (trees_of s) ≤ b → Err f ≡ same_at (trees_of s) a b
   unfolding same_at
   same_right f e la l =
-      let p : at (trees s) a ≡ some (get_or (trees s) a nil) = at_in (trees s) a la in
-      let q : at (trees s) b ≡ none = at_out (trees s) b l in
+      let p : at (trees_of s) a ≡ some (get_or (trees_of s) a nil) = at_in (trees_of s) a la in
+      let q : at (trees_of s) b ≡ none = at_out (trees_of s) b l in
       ap Err e ∙ rw (p, q) refl
+
+-- What is read of the entry at a handle
+
+module _ (s : Inside) (w : IsIntact s) (n : ℕ) where
+  pub reads : (r : Result Entry StoreFault) → ReadAt (entries_of s) n r → Reads (trees_of s) n r
+  reads (Ok e) h =
+      let near : n < length (trees_of s) = omega (arith, h.0, length-trees s) in
+      let low : e.facts.height ≤ highest = subst (λ (x : Entry). x.facts.height ≤ highest) (sym h.1) (w.sound.low n h.0).0 in
+      (get_ok s w n e h, facts_ok s w n e h, sort_ok s w n e h, near, low, λ q l. same_ok s w n q near l)
+  reads (Err f) h =
+      let far : length (trees_of s) ≤ n = omega (arith, h.0, length-trees s) in
+      (get_err s w n f h, facts_err s w n f h, sort_err s w n f h, λ q. same_left s w n q f h.1 far, λ p l. same_right s w p n f h.1 l far)
+
+-- What stands true of the memory stands of what it means
+
+module _ (s : Inside) (w : IsIntact s) where
+  made : (i : ℕ) → i < length (trees_of s) → IsMade (trees_of s) i
+  made i l =
+      let here : i < length (entries_of s) = omega (arith, length-trees s) in
+      record {
+        own = cell_of (pool_of s) (get_or (entries_of s) i vacant);
+        proper = own_before (pool_of s) (entries_of s) w.sound.kept w.sound.fitted i here;
+        tree = own_tree_before (pool_of s) (entries_of s) i here;
+      }
+
+  low : (i : ℕ) → i < length (trees_of s) → (height (get_or (trees_of s) i nil) ≤ highest) × (length (parts (get_or (trees_of s) i nil)) ≤ longest)
+  low i l =
+      let here : i < length (entries_of s) = omega (arith, length-trees s) in
+      let e = get_or (entries_of s) i vacant in
+      let own = own_proper (pool_of s) (entries_of s) w.sound.kept w.sound.fitted i here in
+      let many : length (parts (get_or (trees_of s) i nil)) ≡ count e.node =
+      ap (λ t. length (parts t)) (own_tree (pool_of s) (entries_of s) w.sound.kept w.sound.fitted i here) ∙ parts_many (trees_of s) (cell_of (pool_of s) e) own ∙ sym own.all
+      in
+      (omega (arith, (w.sound.known i here).0, (w.sound.low i here).0), omega (arith, many, (w.sound.low i here).1))
+
+  pub whole : IsWhole (means s)
+  whole =
+      record {
+        within = omega (arith, w.long, w.within);
+        few = w.few;
+        inside = omega (arith, length_pool s w, w.sound.counted, w.inside);
+        few_items = w.few_items;
+        sole = w.sound.sole;
+        made = made;
+        low = low;
+      }

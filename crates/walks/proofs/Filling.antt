@@ -1,6 +1,6 @@
 -- What filling canonical variables in does to a term, from what it does to its parts; that it keeps sorts, does the same again
 -- and leaves alone what has no canonical variable.
-use Rattle.std.proofs.Common.{◌≡◌, ℕ, ◌+◌, true, false, ◌⊎◌, List, [], ◌∷◌, Ok, Err, Result, sym, refl, ap, ◌∙◌, subst, inl, inr, ⊎_elim, arith}
+use Rattle.std.proofs.Common.{◌≡◌, ℕ, ◌+◌, true, false, ◌⊎◌, List, [], ◌∷◌, Some, None, Option, Ok, Err, Result, sym, refl, ap, ◌∙◌, subst, inl, inr, ⊎_elim, arith}
 use mathlib.Core.Option.{some}
 use lib.Bits.{bit_and}
 use Rattle.std.proofs.lemmas.Bool.{both_ways, eqb-true, eq-eqb, lt-ltb, ltb-true}
@@ -14,11 +14,11 @@ use Rattle.theory.specs.declared.words.Head.{Head}
 use Rattle.theory.specs.declared.words.Head.TheVariants.{List as AList}
 use Rattle.theory.specs.declared.words.Node.TheVariants.{Leaf as ALeaf, Over}
 use Rattle.theory.specs.declared.words.Want.{Want}
-use Rattle.theory.specs.declared.words.Want.TheVariants.{Nothing, Argument as AnArgument, Alias as AnAlias, Of}
+use Rattle.theory.specs.declared.words.Want.TheVariants.{Argument as AnArgument, Alias as AnAlias, Of}
 use Rattle.theory.specs.declared.words.StoreFault.{StoreFault}
 use Rattle.theory.specs.Faults.{Fault, from_store, not_canonical, wrong_sort}
 use Rattle.theory.specs.Outcomes.{at, given, must, raised, ◌>>=◌}
-use Rattle.theory.specs.Trees.{Tree, leaf, node, nil, cons, row, applies, assembled, opens, seen, node_sort, sort_code, same_sort, meets, leaf_flags, flags}
+use Rattle.theory.specs.Trees.{Tree, leaf, node, nil, cons, row, applies, assembled, opens, seen, node_sort, sort_code, same_sort, meets, served, leaf_flags, flags}
 use Rattle.theory.specs.Forms.{is_canonical, sort_of}
 use Rattle.theory.specs.Store.{Contents, put, Grown}
 use Rattle.theory.specs.Folds.{Folded, folded, FoldedAll, folded_all, rebuild, fold, fold_all, anywhere}
@@ -229,22 +229,19 @@ module _ (vs : List Tree) where
 
   -- what takes a canonical variable takes its value
   value_serves : (w : Want) (a : ArgSort) (n : ℕ) (t : Tree) → same_sort (Argument a) (sort_of t) ≡ true → meets w (ALeaf (Canonical a n)) ≡ true → meets w (seen t) ≡ true
-  value_serves Nothing a n t k e = e
   value_serves AnArgument a n t k e =
       lt-ltb (sort_code (node_sort (seen t))) 3 (omega (arith, eqb-true (sort_code (Argument a)) (sort_code (sort_of t)) k, ltb-true (sort_code (Argument a)) 3 e))
   value_serves AnAlias a n t k e = absurd (both_ways false refl e)
   value_serves (Of s) a n t k e = same_code s (Argument a) (sort_of t) e k
 
   over_serves : (w : Want) (h : Head) (n k : ℕ) → meets w (Over h n) ≡ true → meets w (Over h k) ≡ true
-  over_serves Nothing h n k e = e
   over_serves AnArgument h n k e = e
   over_serves AnAlias h n k e = e
   over_serves (Of s) h n k e = e
 
-  -- what takes a term takes what it becomes
-  pub fill_serves : (w : Want) (t : Tree) (c : Contents) (f : Folded (Unit {0})) → fill vs t c ≡ Ok f → meets w (seen t) ≡ true → meets w (seen f.tree) ≡ true
+  fill_meets : (w : Want) (t : Tree) (c : Contents) (f : Folded (Unit {0})) → fill vs t c ≡ Ok f → meets w (seen t) ≡ true → meets w (seen f.tree) ≡ true
   unfolding fill
-  fill_serves w (leaf x) c f e m =
+  fill_meets w (leaf x) c f e m =
       ⊎_elim
       (λ (n : is_canonical x ≡ false).
       let is : folded (leaf x) tt c ≡ f = ok_one (folded (leaf x) tt c) f (sym (fill-alone 0 x tt c n) ∙ fold-leaf from_store anywhere (fill_leaf vs) 0 x tt c f e) in
@@ -256,13 +253,18 @@ module _ (vs : List Tree) where
       let p = value_ok a n c f own in
       subst (λ (y : Folded (Unit {0})). meets w (seen y.tree) ≡ true) p.3 (value_serves w a n p.0 p.2 (ap (λ y. meets w (ALeaf y)) (sym v.2) ∙ m)))
       (leaf_cases x)
-  fill_serves w (node h ts) c f e m =
+  fill_meets w (node h ts) c f e m =
       let a = fold-node from_store anywhere (fill_leaf vs) 0 h ts tt c f e in
       subst (λ t. meets w (seen t) ≡ true) (sym a.2.tree_is) (over_serves w h _ _ m)
-  fill_serves w nil c f e m = subst (λ (y : Folded (Unit {0})). meets w (seen y.tree) ≡ true) (fold-nil from_store anywhere (fill_leaf vs) 0 tt c f e) m
-  fill_serves w (cons t u) c f e m =
+  fill_meets w nil c f e m = subst (λ (y : Folded (Unit {0})). meets w (seen y.tree) ≡ true) (fold-nil from_store anywhere (fill_leaf vs) 0 tt c f e) m
+  fill_meets w (cons t u) c f e m =
       let a = fold-cons from_store anywhere (fill_leaf vs) 0 t u tt c f e in
       subst (λ (y : Folded (Unit {0})). meets w (seen y.tree) ≡ true) a.both m
+
+  -- what takes a term takes what it becomes
+  pub fill_serves : (o : Option Want) (t : Tree) (c : Contents) (f : Folded (Unit {0})) → fill vs t c ≡ Ok f → served o (seen t) ≡ true → served o (seen f.tree) ≡ true
+  fill_serves None t c f e m = m
+  fill_serves (Some w) t c f e m = fill_meets w t c f e m
 
   -- Again, and unchanged
 

@@ -3,7 +3,6 @@ use Rattle.std.specs.List.{slice_get, HoldsAt}
 use Rattle.std.specs.Option.{ok_or, option_copied}
 use Rattle.std.proofs.lemmas.Option.{slice_get_past, slice_get_read}
 use Rattle.theory.specs.declared.words.StoreFault.TheVariants.{BadPart}
-use Rattle.terms.specs.Means.{trees}
 use Rattle.terms.proofs.Reading.{part_of_parts}
 use Rattle.terms.proofs.store.Store.part.Goals as goal
 
@@ -16,4 +15,4 @@ pub returns : goal.returns
 returns c =
     c.ok_or.ensures.value
     ∙ ap (λ o. ok_or o (BadPart c.args.place)) (c.copied.ensures ∙ copied_at c.in_ok-parts.parts.now c.args.place c.get.result c.get.ensures.lookup.3)
-    ∙ part_of_parts (trees c.args.self.now) c.args.term c.args.place c.in_ok-parts.parts.now c.in_ok-parts.ensures
+    ∙ part_of_parts c.args.self.now.trees c.args.term c.args.place c.in_ok-parts.parts.now c.in_ok-parts.ensures.answer
