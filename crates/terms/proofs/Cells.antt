@@ -9,13 +9,9 @@ use Rattle.theory.specs.Store.{handle, OneHandle}
 use Rattle.terms.specs.declared.memory.entry.Entry.{Entry}
 use Rattle.terms.specs.Memory.{Cell, cell, cell_of, vacant, formed, tree_of, grown, held, Within, fits, Kept, Fitted}
 use Rattle.theory.specs.Trees.{part_count as count}
+use Rattle.terms.specs.Interning.{Proper}
 use Rattle.terms.proofs.Places.{Below, trees-at, trees_at_more, handles-back}
 use Rattle.terms.proofs.Fits.{accepted_below, accepted_more, parts-assembled, seen-assembled}
-
--- a cell whose handles fit its form, as many as the form says
-pub record Proper (m : List Tree) (c : Cell) : Type 0 where
-  pub fit : fits m c.form c.handles ≡ true
-  pub all : count c.form ≡ length c.handles
 
 fits_below : (m : List Tree) (v : Node) (ns : List ℕ) → fits m v ns ≡ true → Below (length m) ns
 fits_below m (ALeaf x) [] e = tt
@@ -123,6 +119,15 @@ cells_more pool ps (e ∷ es) w =
 pub length-held : (pool : List ℕ) (es : List Entry) → length (held pool es) ≡ length es
 length-held pool es = omega (arith, length-grown [] (cells pool es), length-map es (cell_of pool))
 
+pub own_tree_before : (pool : List ℕ) (es : List Entry) (i : ℕ) → i < length es → get_or (held pool es) i nil ≡ tree_of (take i (held pool es)) (cell_of pool (get_or es i vacant))
+own_tree_before pool es i l =
+    let c = cell_of pool (get_or es i vacant) in
+    let lc : i < length (cells pool es) = omega (arith, length-map es (cell_of pool)) in
+    let g = grown-at [] (cells pool es) i c lc in
+    let z : 0 + i ≡ i = omega arith in
+    subst (λ k. get_or (held pool es) k nil ≡ tree_of (take k (held pool es)) (get_or (cells pool es) i c)) z g
+    ∙ ap (tree_of (take i (held pool es))) (get_or-map (cell_of pool) es i vacant c l)
+
 -- What stands true of every entry gives: it is a proper cell, and its tree is that of its cell
 
 module _ (pool : List ℕ) (es : List Entry) (kept : Kept pool es) (fitted : Fitted pool es) where
@@ -141,11 +146,6 @@ module _ (pool : List ℕ) (es : List Entry) (kept : Kept pool es) (fitted : Fit
   pub own_tree : (i : ℕ) → i < length es → get_or (held pool es) i nil ≡ tree_of (held pool es) (cell_of pool (get_or es i vacant))
   own_tree i l =
       let c = cell_of pool (get_or es i vacant) in
-      let z : 0 + i ≡ i = omega arith in
-      let lc : i < length (cells pool es) = omega (arith, length-map es (cell_of pool)) in
-      let g = grown-at [] (cells pool es) i c lc in
-      let g' = subst (λ k. get_or (held pool es) k nil ≡ tree_of (take k (held pool es)) (get_or (cells pool es) i c)) z g in
-      g'
-      ∙ ap (tree_of (take i (held pool es))) (get_or-map (cell_of pool) es i vacant c l)
+      own_tree_before pool es i l
       ∙ sym (tree_more (take i (held pool es)) (drop i (held pool es)) c (own_before i l))
       ∙ ap (λ x. tree_of x c) (take-append-drop i (held pool es))

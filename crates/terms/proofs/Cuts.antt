@@ -11,7 +11,8 @@ use Rattle.terms.specs.Chains.{bucket, Nexts}
 use Rattle.terms.proofs.Places.{handle-front}
 use Rattle.terms.proofs.Cells.{cells, cell_more, cells_more, grown-front, length-held, own_proper, own_tree}
 use Rattle.terms.proofs.Links.{heads_cut, nexts_cut}
-use Rattle.terms.proofs.Stands.{Sound, parts_many, used-push}
+use Rattle.terms.specs.Means.{Sound}
+use Rattle.terms.proofs.Stands.{parts_many, used-push}
 
 -- what the first cells grow to is the front of what all grow to
 grown-take : (m : List Tree) (cs : List Cell) (k : ℕ) → k ≤ length cs → grown m (take k cs) ≡ take (length m + k) (grown m cs)

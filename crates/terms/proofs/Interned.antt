@@ -1,76 +1,79 @@
 -- What putting a tree answers, from what a search for its cell found.
-use Rattle.std.proofs.Common.{◌≡◌, ℕ, ◌+◌, ◌-◌, ◌<◌, ◌≤◌, true, false, ltb, leb, ◌⊎◌, length, get_or, Ok, Err, sym, refl, ap, ◌∙◌, ⊎_elim, arith}
-use Rattle.std.proofs.lemmas.Bool.{lt-ltb, le-ltb, le-leb, lt-leb, and_from, and_left, and_right}
+use Rattle.std.proofs.Common.{◌≡◌, ℕ, ◌<◌, ◌≤◌, true, false, ltb, length, get_or, Some, None, Ok, Err, Option, sym, refl, ap, ◌∙◌, arith}
+use Rattle.std.proofs.lemmas.Bool.{lt-ltb, le-ltb, both_ways}
 use Rattle.theory.specs.declared.words.StoreFault.TheVariants.{Full, TooHigh, TooLong}
+use Rattle.theory.specs.Limits.{highest, longest}
 use Rattle.theory.specs.Outcomes.{answered}
 use Rattle.theory.specs.Trees.{Tree, nil, parts, height}
-use Rattle.theory.specs.Store.{handle, holds, used, has_room, with_tree, put}
-use Rattle.terms.specs.declared.store.Store.{Store}
+use Rattle.theory.specs.Store.{Contents, handle, holds, has_room, with_tree, put}
+use Rattle.terms.specs.declared.store.Store.TheInside.{Inside}
 use Rattle.terms.specs.Memory.{Cell, tree_of}
-use Rattle.terms.specs.Chains.{IsAt}
-use Rattle.terms.specs.Means.{trees, means}
-use Rattle.terms.proofs.Cells.{Proper, length-held, own_tree}
+use Rattle.terms.specs.Chains.{IsAt, Sought}
+use Rattle.terms.specs.Interning.{Proper, Located, room_for}
+use Rattle.terms.specs.Means.{pool_of, entries_of, trees_of, IsIntact}
+use Rattle.terms.proofs.Cells.{length-held, own_tree}
 use Rattle.terms.proofs.Stands.{not_held, parts_many}
-use Rattle.terms.proofs.Packed.{sound_of}
-use Rattle.terms.proofs.Pushed.{pool_of, entries_of, length-entries}
 
-module _ (s : Store) (c : Cell) (proper : Proper (trees s) c) where
+-- A search for a cell
+
+module _ (s : Inside) (w : IsIntact s) (c : Cell) (proper : Proper (trees_of s) c) where
   abbrev t : Tree
-  t = tree_of (trees s) c
+  t = tree_of (trees_of s) c
 
-  size : length (trees s) ≡ s.len
-  size = length-held (pool_of s) (entries_of s) ∙ length-entries s
-
-  pub put-held : (i : ℕ) → (i < length (entries_of s)) × IsAt (pool_of s) (entries_of s) c i → (Ok i, means s) ≡ answered (means s) (put (means s) (tree_of (trees s) c))
-  unfolding put
-  put-held i h =
-      let m = trees s in
+  -- what stands at a place has that place as its handle
+  own_handle : (i : ℕ) → (i < length (entries_of s)) × IsAt (pool_of s) (entries_of s) c i → (i < length (trees_of s)) × (handle (trees_of s) t ≡ i)
+  own_handle i h =
+      let m = trees_of s in
       let l : i < length m = omega (arith, h.0, length-held (pool_of s) (entries_of s)) in
-      let is : get_or m i nil ≡ t = own_tree (pool_of s) (entries_of s) s.kept s.fitted i h.0 ∙ ap (tree_of m) h.1 in
-      let own : handle m t ≡ i = ap (handle m) (sym is) ∙ s.sole i l in
-      let yes : holds m t ≡ true = lt-ltb (handle m t) (length m) (omega arith) in
-      rw (yes, own) refl
+      let is : get_or m i nil ≡ t = own_tree (pool_of s) (entries_of s) w.sound.kept w.sound.fitted i h.0 ∙ ap (tree_of m) h.1 in
+      (l, ap (handle m) (sym is) ∙ w.sound.sole i l)
 
-  module _ (fresh : (k : ℕ) → k < length (entries_of s) → IsAt (pool_of s) (entries_of s) c k → ⊥) where
-    no : holds (trees s) t ≡ false
-    no = le-ltb (handle (trees s) t) (length (trees s)) (not_held (pool_of s) (entries_of s) _ (sound_of s) c proper fresh)
+  pub located : (o : Option ℕ) → Sought (pool_of s) (entries_of s) c o → Located (trees_of s) (tree_of (trees_of s) c) o
+  located (Some i) h =
+      let own = own_handle i h in
+      (lt-ltb (handle (trees_of s) t) (length (trees_of s)) (omega (arith, own.0, own.1)), own.1)
+  located None fresh = le-ltb (handle (trees_of s) t) (length (trees_of s)) (not_held (pool_of s) (entries_of s) _ w.sound c proper fresh)
 
-    need : used (trees s) + length (parts t) ≡ s.used + length c.handles
-    need = omega (arith, s.counted, parts_many (trees s) c proper)
+  -- where the tree is not held, no entry has the cell
+  pub not_at : holds (trees_of s) (tree_of (trees_of s) c) ≡ false → (k : ℕ) → k < length (entries_of s) → IsAt (pool_of s) (entries_of s) c k → ⊥
+  not_at missing k l e =
+      let own = own_handle k (l, e) in
+      both_ways (holds (trees_of s) t) missing (lt-ltb (handle (trees_of s) t) (length (trees_of s)) (omega (arith, own.0, own.1)))
 
-    pub put_full : (s.limit ≤ s.len) ⊎ (s.room - s.used < length c.handles) → (Err Full, means s) ≡ answered (means s) (put (means s) (tree_of (trees s) c))
+-- Putting the tree of a cell
+
+module _ (c : Contents) (k : Cell) (proper : Proper c.trees k) where
+  abbrev tree : Tree
+  tree = tree_of c.trees k
+
+  many : length (parts tree) ≡ length k.handles
+  many = parts_many c.trees k proper
+
+  pub put-held : (i : ℕ) → Located c.trees (tree_of c.trees k) (Some i) → (Ok i, c) ≡ answered c (put c (tree_of c.trees k))
+  unfolding put
+  put-held i h = rw (h.0, h.1) refl
+
+  module _ (missing : holds c.trees (tree_of c.trees k) ≡ false) where
+    pub put_full : room_for c (length k.handles) ≡ false → (Err Full, c) ≡ answered c (put c (tree_of c.trees k))
     unfolding put
-    put_full h =
-        let full : has_room (means s) t ≡ false =
-        ⊎_elim
-        (λ (l : s.limit ≤ s.len). and_left (ltb (length (trees s)) s.limit) (leb (used (trees s) + length (parts t)) s.room) (le-ltb (length (trees s)) s.limit (omega (arith, size))))
-        (λ (l : s.room - s.used < length c.handles). and_right (ltb (length (trees s)) s.limit) (leb (used (trees s) + length (parts t)) s.room) (lt-leb (used (trees s) + length (parts t)) s.room (omega (arith, need, s.inside))))
-        h
-        in
-        rw (no, full) refl
+    put_full full = let none : has_room c tree ≡ false = ap (room_for c) many ∙ full in rw (missing, none) refl
 
-    module _ (more : s.len < s.limit) (space : length c.handles ≤ s.room - s.used) where
-      open_room : has_room (means s) t ≡ true
-      open_room =
-          and_from (ltb (length (trees s)) s.limit) (leb (used (trees s) + length (parts t)) s.room) (lt-ltb (length (trees s)) s.limit (omega (arith, size)))
-          (le-leb (used (trees s) + length (parts t)) s.room (omega (arith, need, s.inside)))
+    module _ (room : room_for c (length k.handles) ≡ true) where
+      left : has_room c tree ≡ true
+      left = ap (room_for c) many ∙ room
 
-      pub put_high : 64 < height (tree_of (trees s) c) → (Err TooHigh, means s) ≡ answered (means s) (put (means s) (tree_of (trees s) c))
+      pub put_high : highest < height (tree_of c.trees k) → (Err TooHigh, c) ≡ answered c (put c (tree_of c.trees k))
       unfolding put
-      put_high h = let high : ltb 64 (height t) ≡ true = lt-ltb 64 (height t) h in rw (no, open_room, high) refl
+      put_high h = let high : ltb highest (height tree) ≡ true = lt-ltb highest (height tree) h in rw (missing, left, high) refl
 
-      module _ (low : height (tree_of (trees s) c) ≤ 64) where
-        flat : ltb 64 (height t) ≡ false
-        flat = le-ltb 64 (height t) low
+      module _ (low : height (tree_of c.trees k) ≤ highest) where
+        flat : ltb highest (height tree) ≡ false
+        flat = le-ltb highest (height tree) low
 
-        pub put_long : 256 < length c.handles → (Err TooLong, means s) ≡ answered (means s) (put (means s) (tree_of (trees s) c))
+        pub put_long : longest < length k.handles → (Err TooLong, c) ≡ answered c (put c (tree_of c.trees k))
         unfolding put
-        put_long h =
-            let long : ltb 256 (length (parts t)) ≡ true = lt-ltb 256 (length (parts t)) (omega (arith, parts_many (trees s) c proper)) in
-            rw (no, open_room, flat, long) refl
+        put_long h = let long : ltb longest (length (parts tree)) ≡ true = lt-ltb longest (length (parts tree)) (omega (arith, many)) in rw (missing, left, flat, long) refl
 
-        pub put_new : length c.handles ≤ 256 → (Ok (length (trees s)), with_tree (means s) (tree_of (trees s) c)) ≡ answered (means s) (put (means s) (tree_of (trees s) c))
+        pub put_new : length k.handles ≤ longest → (Ok (length c.trees), with_tree c (tree_of c.trees k)) ≡ answered c (put c (tree_of c.trees k))
         unfolding put
-        put_new h =
-            let short : ltb 256 (length (parts t)) ≡ false = le-ltb 256 (length (parts t)) (omega (arith, parts_many (trees s) c proper)) in
-            rw (no, open_room, flat, short) refl
+        put_new h = let short : ltb longest (length (parts tree)) ≡ false = le-ltb longest (length (parts tree)) (omega (arith, many)) in rw (missing, left, flat, short) refl

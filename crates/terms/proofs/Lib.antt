@@ -5,7 +5,6 @@ pub mod Fits
 pub mod Cells
 pub mod Links
 pub mod Stands
-pub mod Packed
 pub mod Pushed
 pub mod Reading
 pub mod Interned

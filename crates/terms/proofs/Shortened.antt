@@ -1,22 +1,21 @@
 -- A store after its newest term was taken away.
 use Rattle.std.proofs.Common.{◌≡◌, ◌+◌, ◌-◌, ◌%◌, ◌<◌, ◌≤◌, length, get_or, take, set, sym, ap, ◌∙◌, subst, arith}
 use Rattle.std.proofs.lemmas.Nat.{mod_below}
-use Rattle.std.proofs.lemmas.List.{get_or-take, take-take}
+use Rattle.std.proofs.lemmas.List.{get_or-take, take-take, length-take-le}
 use Rattle.terms.specs.declared.memory.entry.Entry.{Entry}
-use Rattle.terms.specs.declared.store.Store.{Store}
+use Rattle.terms.specs.declared.store.Store.TheInside.{Inside}
 use Rattle.terms.specs.Memory.{held, vacant}
-use Rattle.terms.specs.Means.{trees}
-use Rattle.terms.proofs.Stands.{Sound}
-use Rattle.terms.proofs.Packed.{sound_of, sound_at}
-use Rattle.terms.proofs.Pushed.{pool_of, entries_of, length-entries, length_pool}
+use Rattle.terms.specs.Means.{pool_of, entries_of, trees_of, Sound, IsIntact}
+use Rattle.terms.proofs.Stands.{sound_at}
+use Rattle.terms.proofs.Pushed.{length-entries, length_pool}
 use Rattle.terms.proofs.Cuts.{held_cut, sound_cut}
 
-module _ (s : Store) (some : 0 < s.len) where
+module _ (s : Inside) (w : IsIntact s) (some : 0 < s.len) where
   abbrev pub newest-entry : Entry
   newest-entry = get_or s.entries.now (s.len - 1) vacant
 
   last : s.len - 1 + 1 ≡ length (entries_of s)
-  last = omega (arith, length-entries s)
+  last = omega (arith, length-entries s w)
 
   same : get_or (entries_of s) (s.len - 1) vacant ≡ newest-entry
   same = get_or-take s.len s.entries.now (s.len - 1) vacant (omega arith)
@@ -24,10 +23,10 @@ module _ (s : Store) (some : 0 < s.len) where
   pub first_in : newest-entry.first ≤ s.used
   first_in =
       let l : s.len - 1 < length (entries_of s) = omega (arith, last) in
-      omega (arith, (s.kept (s.len - 1) l).0, length_pool s, ap (λ (x : Entry). x.first) same)
+      omega (arith, (w.sound.kept (s.len - 1) l).0, length_pool s w, ap (λ (x : Entry). x.first) same)
 
   pub bucket_in : newest-entry.hash % length s.buckets.now < length s.buckets.now
-  bucket_in = mod_below newest-entry.hash (length s.buckets.now) (omega (arith, s.indexed, s.within))
+  bucket_in = mod_below newest-entry.hash (length s.buckets.now) (omega (arith, w.indexed, w.within))
 
   entries_cut : take (s.len - 1) (entries_of s) ≡ take (s.len - 1) s.entries.now
   entries_cut = take-take (s.len - 1) s.len s.entries.now (omega arith)
@@ -35,15 +34,18 @@ module _ (s : Store) (some : 0 < s.len) where
   pool_cut : take (get_or (entries_of s) (s.len - 1) vacant).first (pool_of s) ≡ take newest-entry.first s.items.now
   pool_cut = ap (λ (x : Entry). take x.first (pool_of s)) same ∙ take-take newest-entry.first s.used s.items.now first_in
 
-  pub trees_cut : held (take newest-entry.first s.items.now) (take (s.len - 1) s.entries.now) ≡ take (s.len - 1) (trees s)
+  pub trees_cut : held (take newest-entry.first s.items.now) (take (s.len - 1) s.entries.now) ≡ take (s.len - 1) (trees_of s)
   trees_cut =
       ap (λ xs. held xs (take (s.len - 1) s.entries.now)) (sym pool_cut)
       ∙ ap (held (take (get_or (entries_of s) (s.len - 1) vacant).first (pool_of s))) (sym entries_cut)
-      ∙ held_cut (pool_of s) (entries_of s) s.buckets.now (sound_of s) (s.len - 1) last
+      ∙ held_cut (pool_of s) (entries_of s) s.buckets.now w.sound (s.len - 1) last
+
+  pub long_cut : s.len - 1 ≡ length (held (take newest-entry.first s.items.now) (take (s.len - 1) s.entries.now))
+  long_cut = sym (ap length trees_cut ∙ length-take-le (s.len - 1) (trees_of s) (omega (arith, w.long)))
 
   pub sound_shortened : Sound (take newest-entry.first s.items.now) (take (s.len - 1) s.entries.now) (set s.buckets.now (newest-entry.hash % length s.buckets.now) newest-entry.next)
   sound_shortened =
       let hd = s.buckets.now in
       let own : (get_or (entries_of s) (s.len - 1) vacant).hash % length hd < length hd = subst (λ (x : Entry). x.hash % length hd < length hd) (sym same) bucket_in in
       sound_at _ _ _ _ _ _ pool_cut entries_cut (ap (λ (x : Entry). set hd (x.hash % length hd) x.next) same)
-      (sound_cut (pool_of s) (entries_of s) hd (sound_of s) (s.len - 1) last own)
+      (sound_cut (pool_of s) (entries_of s) hd w.sound (s.len - 1) last own)

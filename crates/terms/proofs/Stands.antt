@@ -9,23 +9,17 @@ use Rattle.terms.specs.declared.memory.entry.Entry.{Entry}
 use Rattle.terms.specs.Hash.{hashed}
 use Rattle.terms.specs.Memory.{Cell, cell, cell_of, vacant, tree_of, grown, held, Within, fits, handles_at, Kept, Placed, Fitted, Known, Deep, Low}
 use Rattle.theory.specs.Trees.{part_count as count}
-use Rattle.terms.specs.Chains.{newest, on_bucket, Heads, Nexts, IsAt}
+use Rattle.terms.specs.Means.{Sound}
+use Rattle.terms.specs.Chains.{newest, on_bucket, Nexts, IsAt}
 use Rattle.terms.proofs.Places.{handle-hit, handle_more, handle_new}
-use Rattle.terms.proofs.Cells.{Proper, cells, cell_more, cells_more, grown-push, length-held, own_proper, own_tree, same_cell, parts_of}
+use Rattle.terms.specs.Interning.{Proper}
+use Rattle.terms.proofs.Cells.{cells, cell_more, cells_more, grown-push, length-held, own_proper, own_tree, same_cell, parts_of}
 use Rattle.terms.proofs.Links.{last_or, heads_push, nexts_push}
 
--- over a pool of parts and the entries in use
-pub record Sound (pool : List ℕ) (es : List Entry) (hd : List ℕ) : Type 0 where
-  pub firsts : Heads es hd
-  pub others : Nexts es (length hd)
-  pub kept : Kept pool es
-  pub placed : Placed pool es
-  pub fitted : Fitted pool es
-  pub known : Known pool es
-  pub deep : Deep pool es
-  pub low : Low es
-  pub sole : OneHandle (held pool es)
-  pub counted : length pool ≡ used (held pool es)
+-- it rests on the part in use alone
+pub sound_at : (pool pool' : List ℕ) (es es' : List Entry) (hd hd' : List ℕ) → pool ≡ pool' → es ≡ es' → hd ≡ hd' → Sound pool es hd → Sound pool' es' hd'
+sound_at pool pool' es es' hd hd' p e h s =
+    subst (λ x. Sound pool' es' x) h (subst (λ x. Sound pool' x hd) e (subst (λ x. Sound x es hd) p s))
 
 pub used-push : (m : List Tree) (t : Tree) → used (m ++ t ∷ []) ≡ used m + length (parts t)
 used-push [] t = omega arith

@@ -1,5 +1,7 @@
 -- What one pass over the parts of a new term finds is what its tree says.
-use Rattle.std.proofs.Common.{◌≡◌, ℕ, zero, suc, ◌+◌, ◌*◌, ◌/◌, ◌%◌, ◌<◌, ◌≤◌, max, Bool, true, false, cond, ltb, List, [], ◌∷◌, length, get_or, Ok, Err, Result, sym, refl, ap, ◌∙◌, ⊎_elim, arith}
+use Rattle.std.proofs.Common.{◌≡◌, ℕ, zero, suc, ◌+◌, ◌*◌, ◌/◌, ◌%◌, ◌<◌, ◌≤◌, max, Bool, true, false, cond, ltb, List, [], ◌∷◌, length, get_or, drop, Ok, Err, Result, sym, refl, ap, ◌∙◌, ⊎_elim, add-one, arith}
+use Rattle.std.proofs.lemmas.List.{drop_more, drop_all}
+use Rattle.theory.specs.declared.words.Node.{Node}
 use mathlib.Core.Option.{Option, none, some}
 use native.Mathlib.Nat.{max-zero, zero-max}
 use lib.Bits.{bit_or, or_step, or_zero_r, or_shr}
@@ -10,17 +12,12 @@ use Rattle.theory.specs.declared.words.ListSort.TheVariants.{Arguments}
 use Rattle.theory.specs.declared.words.Facts.{Facts}
 use Rattle.theory.specs.declared.words.StoreFault.{StoreFault}
 use Rattle.theory.specs.declared.words.StoreFault.TheVariants.{NoSuch, BadPart}
-use Rattle.theory.specs.Outcomes.{at, ◌>>=◌, answered}
-use Rattle.theory.specs.Trees.{Tree, node, nil, row, applies, assembled, seen, takes, least, facts}
-use Rattle.theory.specs.Store.{checked, checked_at, put, add_node}
-use Rattle.terms.specs.Memory.{accepted, vacant}
+use Rattle.theory.specs.Outcomes.{at, given, ◌>>=◌, answered}
+use Rattle.theory.specs.Trees.{Tree, node, row, applies, assembled, seen, takes, least, facts}
+use Rattle.theory.specs.Store.{Contents, checked, checked_at, put, add_node, get, facts_at}
+use Rattle.terms.specs.Memory.{accepted}
 use Rattle.terms.specs.Survey.{no_facts, beside, topped, surveyed, surveyed_at, Passed}
-use Rattle.terms.specs.declared.memory.entry.Entry.{Entry}
-use Rattle.terms.specs.declared.store.Store.{Store}
-use Rattle.terms.specs.Means.{trees, means}
-use Rattle.terms.proofs.Places.{trees-at, at_in, at_out}
-use Rattle.terms.proofs.Pushed.{entries_of}
-use Rattle.terms.proofs.Reading.{length-trees, seen_at, facts_here}
+use Rattle.terms.proofs.Places.{trees-at}
 use Rattle.terms.proofs.Fits.{accepted-trees, one_list}
 
 -- Bits: or is associative
@@ -143,47 +140,71 @@ module _ (m : List Tree) (h : Head) (ns : List ℕ) where
 
 -- What the pass tells the call that adds
 
-pub pass_refused : (s : Store) (h : Head) (ns : List ℕ) (g : StoreFault) → Err g ≡ surveyed (trees s) h 0 ns no_facts → Passed (means s) h ns (Err g)
-unfolding add_node
-pass_refused s h ns g e =
-    ap (λ (r : Result (List Tree) StoreFault). answered (means s) (r >>= λ ts. put (means s) (assembled h ts))) (sym (survey_err (trees s) h ns g e))
+module _ (c : Contents) (h : Head) (ns : List ℕ) where
+  pub pass_refused : (g : StoreFault) → Err g ≡ surveyed c.trees h 0 ns no_facts → Passed c h ns (Err g)
+  unfolding add_node
+  pass_refused g e =
+      ap (λ (r : Result (List Tree) StoreFault). answered c (r >>= λ ts. put c (assembled h ts))) (sym (survey_err c.trees h ns g e))
 
-pub pass_accepted : (s : Store) (h : Head) (ns : List ℕ) (f : Facts) → Ok f ≡ surveyed (trees s) h 0 ns no_facts → Passed (means s) h ns (Ok f)
-unfolding add_node
-pass_accepted s h ns f e =
-    let o = survey_ok (trees s) h ns f e in (
-      o.0,
-      o.1,
-      ap (λ (r : Result (List Tree) StoreFault). answered (means s) (r >>= λ ts. put (means s) (assembled h ts))) (sym (accepted-trees (trees s) h 0 ns o.0)),
-    )
+  pub pass_accepted : (f : Facts) → Ok f ≡ surveyed c.trees h 0 ns no_facts → Passed c h ns (Ok f)
+  unfolding add_node
+  pass_accepted f e =
+      let o = survey_ok c.trees h ns f e in (
+        o.0,
+        o.1,
+        ap (λ (r : Result (List Tree) StoreFault). answered c (r >>= λ ts. put c (assembled h ts))) (sym (accepted-trees c.trees h 0 ns o.0)),
+      )
 
--- One turn of the pass
+-- One turn of the pass, by what is read at the handle
 
-module _ (s : Store) (h : Head) (k n : ℕ) (ns : List ℕ) (f : Facts) where
-  pub step_missing : (g : StoreFault) → (length (entries_of s) ≤ n) × (g ≡ NoSuch n) → Err g ≡ surveyed (trees s) h k (n ∷ ns) f
-  step_missing g r =
-      ap Err r.1 ∙ ap (λ o. surveyed_at h k n o (surveyed (trees s) h (suc k) ns) f) (sym (at_out (trees s) n (omega (arith, r.0, length-trees s))))
+module _ (h : Head) (k n : ℕ) (q : Facts → Result Facts StoreFault) (f : Facts) where
+  missing_at : (o : Option Tree) (g : StoreFault) → Err g ≡ (given o (NoSuch n) >>= λ t. Ok (seen t)) → Err g ≡ surveyed_at h k n o q f
+  missing_at none g e = let same : g ≡ NoSuch n = cc in ap Err same
+  missing_at (some t) g e = let z : ◌≡◌ {A = ℕ} 0 1 = cc in absurd (omega arith)
 
-  module _ (e : Entry) (r : (n < length (entries_of s)) × (e ≡ get_or (entries_of s) n vacant)) where
-    held_at : at (trees s) n ≡ some (get_or (trees s) n nil)
-    held_at = at_in (trees s) n (omega (arith, r.0, length-trees s))
+  bad_at : (o : Option Tree) (v : Node) → Ok v ≡ (given o (NoSuch n) >>= λ t. Ok (seen t)) → takes h k v ≡ false → Err (BadPart k) ≡ surveyed_at h k n o q f
+  bad_at none v e b = let z : ◌≡◌ {A = ℕ} 0 1 = cc in absurd (omega arith)
+  bad_at (some t) v e b =
+      let form : v ≡ seen t = cc in
+      let no : takes h k (seen t) ≡ false = ap (takes h k) (sym form) ∙ b in
+      rw no refl
 
-    form : e.node ≡ seen (get_or (trees s) n nil)
-    form = ap (λ (x : Entry). x.node) r.1 ∙ sym (seen_at s n r.0)
+  more_at : (o : Option Tree) (v : Node) (own : Facts) → Ok v ≡ (given o (NoSuch n) >>= λ t. Ok (seen t)) → Ok own ≡ (given o (NoSuch n) >>= λ t. Ok (facts t)) → takes h k v ≡ true → q (beside f own) ≡ surveyed_at h k n o q f
+  more_at none v own e d b = let z : ◌≡◌ {A = ℕ} 0 1 = cc in absurd (omega arith)
+  more_at (some t) v own e d b =
+      let form : v ≡ seen t = cc in
+      let found : own ≡ facts t = cc in
+      let yes : takes h k (seen t) ≡ true = ap (takes h k) (sym form) ∙ b in
+      rw (found, yes) refl
 
-    own : e.facts ≡ facts (get_or (trees s) n nil)
-    own = ap (λ (x : Entry). x.facts) r.1 ∙ sym (facts_here s n r.0)
+-- at place k of the parts
+module _ (m : List Tree) (h : Head) (k : ℕ) (ns : List ℕ) (l : k < length ns) (f : Facts) where
+  here : surveyed m h k (drop k ns) f ≡ surveyed_at h k (get_or ns k 0) (at m (get_or ns k 0)) (surveyed m h (suc k) (drop (k + 1) ns)) f
+  here = ap (λ xs. surveyed m h k xs f) (drop_more ns k 0 l)
 
-    pub step_bad : takes h k e.node ≡ false → Err (BadPart k) ≡ surveyed (trees s) h k (n ∷ ns) f
-    step_bad b = let no : takes h k (seen (get_or (trees s) n nil)) ≡ false = ap (takes h k) (sym form) ∙ b in rw (held_at, no) refl
+  pub step_missing : (g : StoreFault) → Err g ≡ get m (get_or ns k 0) → Err g ≡ surveyed m h k (drop k ns) f
+  unfolding get
+  step_missing g e = missing_at h k (get_or ns k 0) (surveyed m h (suc k) (drop (k + 1) ns)) f (at m (get_or ns k 0)) g e ∙ sym here
 
-    pub step_more : takes h k e.node ≡ true → surveyed (trees s) h (suc k) ns (beside f e.facts) ≡ surveyed (trees s) h k (n ∷ ns) f
-    step_more b =
-        let yes : takes h k (seen (get_or (trees s) n nil)) ≡ true = ap (takes h k) (sym form) ∙ b in
-        ap (λ g. surveyed (trees s) h (suc k) ns (beside f g)) own ∙ rw (held_at, yes) refl
+  pub step_bad : (v : Node) → Ok v ≡ get m (get_or ns k 0) → takes h k v ≡ false → Err (BadPart k) ≡ surveyed m h k (drop k ns) f
+  unfolding get
+  step_bad v e b = bad_at h k (get_or ns k 0) (surveyed m h (suc k) (drop (k + 1) ns)) f (at m (get_or ns k 0)) v e b ∙ sym here
 
-pub end_bad : (m : List Tree) (h : Head) (k : ℕ) (f : Facts) → k < least h → Err (BadPart k) ≡ surveyed m h k [] f
-end_bad m h k f l = sym (cond-true (ltb k (least h)) (Err (BadPart k)) (Ok (topped h f)) (lt-ltb k (least h) l))
+  pub step_more : (v : Node) (own : Facts) → Ok v ≡ get m (get_or ns k 0) → Ok own ≡ facts_at m (get_or ns k 0) → takes h k v ≡ true → surveyed m h (k + 1) (drop (k + 1) ns) (beside f own) ≡ surveyed m h k (drop k ns) f
+  unfolding get facts_at
+  step_more v own e d b =
+      ap (λ j. surveyed m h j (drop (k + 1) ns) (beside f own)) (add-one k)
+      ∙ more_at h k (get_or ns k 0) (surveyed m h (suc k) (drop (k + 1) ns)) f (at m (get_or ns k 0)) v own e d b ∙ sym here
 
-pub end_ok : (m : List Tree) (h : Head) (k : ℕ) (f : Facts) → least h ≤ k → Ok (topped h f) ≡ surveyed m h k [] f
-end_ok m h k f l = sym (cond-false (ltb k (least h)) (Err (BadPart k)) (Ok (topped h f)) (le-ltb k (least h) l))
+-- after the last part
+module _ (m : List Tree) (h : Head) (k : ℕ) (ns : List ℕ) (all : length ns ≡ k) (f : Facts) where
+  past : surveyed m h k (drop k ns) f ≡ surveyed m h k [] f
+  past = ap (λ xs. surveyed m h k xs f) (drop_all k ns (omega arith))
+
+  pub end_bad : length ns < least h → Err (BadPart (length ns)) ≡ surveyed m h k (drop k ns) f
+  end_bad less =
+      ap (λ n. Err (BadPart n)) all
+      ∙ sym (past ∙ cond-true (ltb k (least h)) (Err (BadPart k)) (Ok (topped h f)) (lt-ltb k (least h) (omega arith)))
+
+  pub end_ok : least h ≤ length ns → Ok (topped h f) ≡ surveyed m h k (drop k ns) f
+  end_ok more = sym (past ∙ cond-false (ltb k (least h)) (Err (BadPart k)) (Ok (topped h f)) (le-ltb k (least h) (omega arith)))

@@ -4,3 +4,6 @@ pub mod Chains
 pub mod Means
 pub mod Survey
 pub mod Reads
+pub mod Stored
+pub mod Interning
+pub mod Whole

@@ -57,33 +57,15 @@ pub fn least_parts(head: Head) -> usize
     }
 }
 
-fn is_argument_sort(sort: Sort) -> bool
-    ensures { result ≡ is_argument sort }
-{
-    matches!(sort, Sort::Argument(_))
-}
-
-fn is_alias_node(node: Node) -> bool
-    ensures { result ≡ is_alias node }
-{
-    matches!(node, Node::Over(Head::Alias(_), _))
-}
-
-fn is_same_sort(a: Sort, b: Sort) -> bool
-    ensures { result ≡ same_sort a b }
-{
-    a == b
-}
-
 // Whether the head takes such an entry as its part at the place.
 pub fn takes_part(head: Head, place: usize, part: Node) -> bool
     ensures { result ≡ takes head place part }
 {
     match wants(head, place) {
         None => false,
-        Some(Want::Argument) => is_argument_sort(part.sort()),
-        Some(Want::Alias) => is_alias_node(part),
-        Some(Want::Of(sort)) => is_same_sort(sort, part.sort()),
+        Some(Want::Argument) => matches!(part.sort(), Sort::Argument(_)),
+        Some(Want::Alias) => matches!(part, Node::Over(Head::Alias(_), _)),
+        Some(Want::Of(sort)) => sort == part.sort(),
     }
 }
 

@@ -1,5 +1,5 @@
 // One entry of a store's memory, and how the hash index finds one.
-ghost use Rattle.std.specs.Prelude.{◌≡◌, ◌+◌, ◌<◌, ◌≤◌, length, Decides};
+ghost use Rattle.std.specs.Prelude.{◌≡◌, ◌+◌, ◌<◌, ◌≤◌, length, IsTrue, ◌↔◌};
 ghost use Rattle.terms.specs.Hash.{hashed};
 ghost use Rattle.terms.specs.Memory.{cell_of, cell, Kept};
 ghost use Rattle.theory.specs.Trees.{part_count as count};
@@ -11,36 +11,13 @@ mod entry;
 
 pub use entry::Entry;
 
-fn is_same_node(a: Node, b: Node) -> bool
-    ensures { Decides result (a ≡ b) }
-{
-    a == b
-}
-
-fn is_same_parts(a: &[Handle], b: &[Handle]) -> bool
-    ensures { Decides result (a.now ≡ b.now) }
-{
-    if a.len() != b.len() {
-        return false;
-    }
-    for i in 0..a.len() {
-        if a[i] != b[i] {
-            return false;
-        }
-    }
-    true
-}
-
 // Whether the entry is of this form, over these parts.
 fn is_entry(e: Entry, items: &[Handle], node: Node, parts: &[Handle]) -> bool
     requires { e.first + count e.node ≤ length items.now }
-    ensures { Decides result (cell_of items.now e ≡ cell node parts.now) }
+    ensures { IsTrue result ↔ (cell_of items.now e ≡ cell node parts.now) }
 {
-    if !is_same_node(e.node, node) {
-        return false;
-    }
     let first = e.first as usize;
-    is_same_parts(&items[first..first + e.node.count()], parts)
+    e.node == node && &items[first..first + e.node.count()] == parts
 }
 
 // The entry of this form over these parts, by the chain of its hash's bucket.

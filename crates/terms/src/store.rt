@@ -4,15 +4,11 @@ mod calls;
 mod cuts;
 mod makes;
 
-ghost use Rattle.std.specs.Prelude.{◌≡◌, ℕ, ◌+◌, ◌*◌, ◌<◌, ◌≤◌, length, take};
-ghost use Rattle.theory.specs.Limits.{most_entries, most_items};
-ghost use Rattle.theory.specs.Store.{OneHandle, used as parts_held};
-ghost use Rattle.terms.specs.Memory.{held, Kept, Placed, Fitted, Known, Deep, Low};
-ghost use Rattle.terms.specs.Chains.{Heads, Nexts};
-
 use crate::memory::Entry;
+use std::marker::Model;
 use theory::Handle;
 
+// The memory is lent, as slices with counts of what is in use: a store never allocates, so it holds no Vec or Box.
 #[derive(Drop)]
 pub struct Store<'a> {
     entries: &'a mut [Entry],
@@ -23,22 +19,19 @@ pub struct Store<'a> {
     used: usize,
     limit: usize,
     room: usize,
-    ghost within: { len ≤ limit },
-    ghost few: { limit ≤ most_entries },
-    ghost lent: { limit ≤ length entries.now },
-    ghost indexed: { limit ≤ most_entries * length buckets.now },
-    ghost inside: { used ≤ room },
-    ghost few_items: { room ≤ most_items },
-    ghost lent_items: { room ≤ length items.now },
-    ghost firsts: { Heads (take len entries.now) buckets.now },
-    ghost others: { Nexts (take len entries.now) (length buckets.now) },
-    ghost kept: { Kept (take used items.now) (take len entries.now) },
-    ghost placed: { Placed (take used items.now) (take len entries.now) },
-    ghost fitted: { Fitted (take used items.now) (take len entries.now) },
-    ghost known: { Known (take used items.now) (take len entries.now) },
-    ghost deep: { Deep (take used items.now) (take len entries.now) },
-    ghost low: { Low (take len entries.now) },
-    ghost sole: { OneHandle (held (take used items.now) (take len entries.now)) },
-    ghost long: { len ≡ length (held (take used items.now) (take len entries.now)) },
-    ghost counted: { used ≡ parts_held (held (take used items.now) (take len entries.now)) },
+}
+
+impl<'a> Model for Store<'a> {
+    ghost use Rattle.theory.specs.Store.{Contents};
+    ghost use Rattle.terms.specs.Stored.{coded_contents};
+
+    ghost Value = { Contents };
+
+    ghost coded = { coded_contents };
+
+    ghost use Rattle.terms.specs.Means.{means, IsIntact};
+
+    ghost view = { means };
+
+    ghost invariant = { IsIntact };
 }

@@ -1,6 +1,6 @@
 -- A store by what it means: the trees that it holds, in order, and its room. A handle is a place in that list.
 -- Nothing held ever changes; a new tree goes to the end.
-use Rattle.std.specs.Prelude.{◌≡◌, ℕ, suc, ◌+◌, ◌<◌, Bool, cond, ◌&&◌, List, [], ◌∷◌, ◌++◌, length, take, Ok, Err, Result, nat_le, nat_lt, slice_index_or}
+use Rattle.std.specs.Prelude.{◌≡◌, ℕ, suc, ◌+◌, ◌<◌, Bool, cond, ◌&&◌, List, [], ◌∷◌, ◌++◌, map, length, take, Ok, Err, Result, nat_le, nat_lt, slice_index_or}
 use Rattle.std.proofs.Math.Option.{Option, none, some}
 use Rattle.theory.specs.declared.words.Leaf.{Leaf}
 use Rattle.theory.specs.declared.words.Head.{Head}
@@ -91,6 +91,10 @@ get m n = found m n >>= λ t. Ok (seen t)
 
 unfoldable pub part : List Tree → ℕ → ℕ → Result ℕ StoreFault
 part m n k = found m n >>= λ t. given (at (parts t) k) (BadPart k) >>= λ u. Ok (handle m u)
+
+-- the handles of all parts, in order
+unfoldable pub parts_at : List Tree → ℕ → Result (List ℕ) StoreFault
+parts_at m n = found m n >>= λ t. Ok (map (handle m) (parts t))
 
 unfoldable pub sort_at : List Tree → ℕ → Result Sort StoreFault
 sort_at m n = get m n >>= λ v. Ok (node_sort v)

@@ -1,6 +1,5 @@
 // What a foldable value means, and putting a term at a root.
 ghost use Rattle.std.specs.Prelude.{◌≡◌, ℕ, List, length, slice_set};
-ghost use Rattle.terms.specs.Means.{trees};
 ghost use Rattle.values.specs.Roots.{count_of, root_at, put_at, put_answer};
 
 use terms::Store;
@@ -38,7 +37,7 @@ pub fn put_root<V: Foldable>(
     k: usize,
     term: Handle,
 ) -> Result<(), StoreFault>
-    ensures answer { result ≡ put_answer (trees store.now) (V.Foldable.roots value.old) k term }
+    ensures answer { result ≡ put_answer store.now.trees (V.Foldable.roots value.old) k term }
     ensures after { value.new ≡ put_at (V.Foldable.rebuilt value.old) (V.Foldable.roots value.old) k term result value.old }
 {
     let old = store.sort(value.root(k)?)?;

@@ -1,5 +1,5 @@
 -- What the calls that read a store say of the tree at a handle and of its parts.
-use Rattle.std.proofs.Common.{◌≡◌, ℕ, ◌<◌, ◌≤◌, List, length, get_or, Ok, Err, Result, sym, ap, ◌∙◌, ⊎_elim, arith}
+use Rattle.std.proofs.Common.{◌≡◌, ℕ, ◌<◌, ◌≤◌, List, map, length, get_or, Ok, Err, Result, sym, ap, ◌∙◌, ⊎_elim, arith}
 use Rattle.std.proofs.lemmas.Bool.{cases_lt}
 use Rattle.std.proofs.lemmas.List.{length-map, get_or-map}
 use Rattle.theory.specs.declared.words.Facts.{Facts}
@@ -7,15 +7,13 @@ use Rattle.theory.specs.declared.words.Head.{Head}
 use Rattle.theory.specs.declared.words.Node.{Node}
 use Rattle.theory.specs.declared.words.Node.TheVariants.{Over}
 use Rattle.theory.specs.declared.words.StoreFault.{StoreFault}
-use Rattle.theory.specs.declared.words.StoreFault.TheVariants.{NoSuch, BadPart}
-use Rattle.theory.specs.Outcomes.{at, given, ◌>>=◌}
+use Rattle.theory.specs.declared.words.StoreFault.TheVariants.{NoSuch}
+use Rattle.theory.specs.Outcomes.{given, ◌>>=◌}
 use Rattle.theory.specs.Trees.{Tree, nil, parts, seen, facts}
-use Rattle.theory.specs.Store.{found, handle, get, part, facts_at}
+use Rattle.theory.specs.Store.{OneHandle, found, handle, get, parts_at, facts_at}
 use Rattle.theory.proofs.Steps.{never_ok, ok_one}
 use Rattle.maps.proofs.Elements.{at_in, at_out}
-use Rattle.terms.specs.declared.store.Store.{Store}
-use Rattle.terms.specs.Means.{trees}
-use Rattle.terms.proofs.Places.{trees-at, below_at}
+use Rattle.terms.proofs.Places.{Below, below_more, trees-at, below_at, handles-back}
 use Rattle.terms.proofs.Fits.{seen-assembled}
 use Rattle.terms.proofs.Formed.{OverParts}
 
@@ -71,26 +69,20 @@ many_parts m n h k o e =
     let all : Over h k ≡ Over h (length (parts t)) = e ∙ ap seen o.tree ∙ seen-assembled h us ∙ ap (λ u. Over h (length (parts u))) (sym o.tree) in
     cc
 
-module _ (s : Store) (n : ℕ) (l : n < length (trees s)) (h : Head) (o : OverParts (trees s) n h) where
-  pub many_handles : length o.handles ≡ length (parts (get_or (trees s) n nil))
-  many_handles = sym (ap length o.parts_are ∙ length-map o.handles (λ i. get_or (trees s) i nil))
+module _ (m : List Tree) (n : ℕ) (l : n < length m) (h : Head) (o : OverParts m n h) where
+  pub many_handles : length o.handles ≡ length (parts (get_or m n nil))
+  many_handles = sym (ap length o.parts_are ∙ length-map o.handles (λ i. get_or m i nil))
 
-  pub handle_in : (k : ℕ) → k < length o.handles → get_or o.handles k 0 < length (trees s)
+  pub handle_in : (k : ℕ) → k < length o.handles → get_or o.handles k 0 < length m
   handle_in k lk = omega (arith, below_at n o.handles k o.before lk)
 
-  -- the part at a place, by its handle and as a tree
-  pub part_is : (k : ℕ) → k < length o.handles → part (trees s) n k ≡ Ok (get_or o.handles k 0)
-  unfolding part
-  part_is k lk =
-      let m = trees s in
-      let ts = trees-at m o.handles in
-      let lt : k < length ts = omega (arith, length-map o.handles (λ i. get_or m i nil)) in
-      let read : Tree → Result ℕ StoreFault = λ t. given (at (parts t) k) (BadPart k) >>= λ u. Ok (handle m u) in
-      ap (λ (r : Result Tree StoreFault). r >>= read) (found_in m n l)
-      ∙ ap (λ us. given (at us k) (BadPart k) >>= λ u. Ok (handle m u)) o.parts_are
-      ∙ ap (λ o. given o (BadPart k) >>= λ u. Ok (handle m u)) (at_in ts k nil lt)
-      ∙ ap (λ u. Ok (handle m u)) (get_or-map (λ i. get_or m i nil) o.handles k 0 nil lk)
-      ∙ ap Ok (s.sole (get_or o.handles k 0) (handle_in k lk))
+  -- the parts, by their handles; and the part at a place, as a tree
+  pub parts_are : OneHandle m → parts_at m n ≡ Ok o.handles
+  unfolding parts_at
+  parts_are sole =
+      let below : Below (length m) o.handles = below_more n (length m) o.handles (omega arith) o.before in
+      ap (λ (r : Result Tree StoreFault). r >>= λ t. Ok (map (handle m) (parts t))) (found_in m n l)
+      ∙ ap (λ ts. Ok (map (handle m) ts)) o.parts_are ∙ ap Ok (handles-back m o.handles sole below)
 
-  pub part-tree : (k : ℕ) → k < length o.handles → get_or (parts (get_or (trees s) n nil)) k nil ≡ get_or (trees s) (get_or o.handles k 0) nil
-  part-tree k lk = ap (λ ts. get_or ts k nil) o.parts_are ∙ get_or-map (λ i. get_or (trees s) i nil) o.handles k 0 nil lk
+  pub part-tree : (k : ℕ) → k < length o.handles → get_or (parts (get_or m n nil)) k nil ≡ get_or m (get_or o.handles k 0) nil
+  part-tree k lk = ap (λ ts. get_or ts k nil) o.parts_are ∙ get_or-map (λ i. get_or m i nil) o.handles k 0 nil lk

@@ -1,54 +1,71 @@
 // The calls that read, and cutting back.
-ghost use Rattle.std.specs.Prelude.{◌≡◌, take};
-ghost use Rattle.theory.specs.Store.{get as read, part as part_at, facts_at, sort_at};
+ghost use Rattle.std.specs.Prelude.{◌≡◌, Ok, Err, MatchResult};
+ghost use Rattle.theory.specs.Store.{get as read, part as part_at, parts_at, facts_at, sort_at};
+ghost use Rattle.terms.specs.Whole.{IsWhole};
 ghost use Rattle.terms.specs.Reads.{ReadAt, Reads, same_at};
-ghost use Rattle.terms.specs.Means.{trees};
 
 use crate::memory::Entry;
 use crate::store::Store;
 use theory::{Facts, Handle, Node, Sort, StoreFault};
 
+// The entry at a handle.
+fn entry_at(entries: &[Entry], term: Handle) -> Result<Entry, StoreFault>
+    ensures { ReadAt entries.now term result }
+{
+    let at = term as usize;
+    if at >= entries.len() {
+        return Err(StoreFault::NoSuch(term));
+    }
+    Ok(entries[at])
+}
+
 impl Store<'_> {
-    // The entry at a handle, in memory and by what it says of its term.
+    // The entry at a handle, by what it says of its term.
     pub(crate) fn entry(&self, term: Handle) -> Result<Entry, StoreFault>
-        ensures memory { ReadAt (take self.now.len self.now.entries.now) term result }
-        ensures meaning { Reads (trees self.now) self.now.items.now term result }
+        ensures reads { Reads self.now.trees term result }
+        ensures whole { IsWhole self.now }
     {
-        let at = term as usize;
-        if at >= self.len {
-            return Err(StoreFault::NoSuch(term));
-        }
-        Ok(self.entries[at])
+        entry_at(&self.entries[..self.len], term)
     }
 
     // The form of a term, with the number of its parts.
     pub fn get(&self, term: Handle) -> Result<Node, StoreFault>
-        ensures { result ≡ read (trees self.now) term }
+        ensures answer { result ≡ read self.now.trees term }
+        ensures whole { IsWhole self.now }
     {
         Ok(self.entry(term)?.node)
     }
 
-    // The part of a term at a place: an element of a list, the argument list of a constructor.
-    pub fn part(&self, term: Handle, place: usize) -> Result<Handle, StoreFault>
-        ensures { result ≡ part_at (trees self.now) term place }
+    // The parts of a term, in order: the elements of a list, the argument list of a constructor.
+    pub fn parts(&self, term: Handle) -> Result<&[Handle], StoreFault>
+        ensures answer { MatchResult result (λ parts. Ok parts.now ≡ parts_at self.now.trees term) (λ fault. Err fault ≡ parts_at self.now.trees term) }
+        ensures whole { IsWhole self.now }
     {
-        let e = self.entry(term)?;
-        if place >= e.node.count() {
-            return Err(StoreFault::BadPart(place));
-        }
-        Ok(self.items[e.first as usize + place])
+        let e = entry_at(&self.entries[..self.len], term)?;
+        let first = e.first as usize;
+        Ok(&self.items[first..first + e.node.count()])
+    }
+
+    // The part of a term at a place.
+    #[tactic(auto, using(crate::proofs::Reading::part_refused))]
+    pub fn part(&self, term: Handle, place: usize) -> Result<Handle, StoreFault>
+        ensures { result ≡ part_at self.now.trees term place }
+    {
+        let parts = self.parts(term)?;
+        parts.get(place).copied().ok_or(StoreFault::BadPart(place))
     }
 
     // The height of a term, its flags and its outermost bound depth.
     pub fn facts(&self, term: Handle) -> Result<Facts, StoreFault>
-        ensures { result ≡ facts_at (trees self.now) term }
+        ensures answer { result ≡ facts_at self.now.trees term }
+        ensures whole { IsWhole self.now }
     {
         Ok(self.entry(term)?.facts)
     }
 
     // The sort of a term.
     pub fn sort(&self, term: Handle) -> Result<Sort, StoreFault>
-        ensures { result ≡ sort_at (trees self.now) term }
+        ensures { result ≡ sort_at self.now.trees term }
     {
         Ok(self.entry(term)?.node.sort())
     }
@@ -57,7 +74,7 @@ impl Store<'_> {
 impl Store<'_> {
     // Whether two handles name equal terms. Equal terms have one handle, so this is whether they are one.
     pub fn is_same(&self, a: Handle, b: Handle) -> Result<bool, StoreFault>
-        ensures { result ≡ same_at (trees self.now) a b }
+        ensures { result ≡ same_at self.now.trees a b }
     {
         self.entry(a)?;
         self.entry(b)?;

@@ -1,6 +1,6 @@
 // A store is made over memory that the caller lends.
 ghost use Rattle.std.specs.Prelude.{◌≡◌, length};
-ghost use Rattle.terms.specs.Means.{means, empty, limited, trees};
+ghost use Rattle.terms.specs.Means.{empty, limited};
 
 use crate::memory::Entry;
 use crate::store::Store;
@@ -24,7 +24,7 @@ impl<'a> Store<'a> {
         buckets: &'a mut [u32],
         items: &'a mut [Handle],
     ) -> Store<'a>
-        ensures { means result ≡ empty (length entries.old) (length buckets.old) (length items.old) }
+        ensures { result ≡ empty (length entries.old) (length buckets.old) (length items.old) }
     {
         for b in buckets.iter_mut() {
             *b = 0;
@@ -46,7 +46,7 @@ impl<'a> Store<'a> {
 impl Store<'_> {
     // How many terms are held.
     pub fn len(&self) -> usize
-        ensures { result ≡ length (trees self.now) }
+        ensures { result ≡ length self.now.trees }
     {
         self.len
     }

@@ -1,84 +1,48 @@
-use Rattle.std.proofs.Common.{◌≡◌, ◌+◌, ◌%◌, ◌<◌, [], ◌∷◌, ◌++◌, length, get_or, take, set, sym, refl, ap, ◌∙◌, arith}
-use Rattle.std.proofs.lemmas.List.{take_more_set, take-set-le, length-set}
+use borrow.Rule.Slice.PartMut.{put_mid, same_len_mid}
+use Rattle.std.proofs.Common.{◌≡◌, ℕ, ◌+◌, ◌-◌, ◌%◌, ◌≤◌, List, ◌++◌, length, get_or, take, sym, refl, ap, ◌∙◌, subst, arith}
+use Rattle.std.proofs.lemmas.List.{length-set, length_push}
+use Rattle.std.proofs.lemmas.Slice.{take-put_mid}
+use Rattle.theory.specs.Store.{Contents}
 use Rattle.terms.specs.declared.memory.entry.Entry.{Entry}
-use Rattle.terms.specs.Memory.{held, cell, tree_of}
-use Rattle.terms.specs.Means.{trees}
-use Rattle.terms.proofs.Packed.{packed, room_of, sound_of, sound_at}
-use Rattle.terms.proofs.Cells.{length-held}
-use Rattle.terms.proofs.Pushed.{pool_of, entries_of, length-entries, trees_pushed, sound_pushed}
+use Rattle.terms.specs.Memory.{cell, tree_of}
+use Rattle.terms.specs.Interning.{Addable}
+use Rattle.terms.specs.Means.{trees_of, means}
+use Rattle.terms.proofs.Pushed.{entry_left, items_left, trees-after, sound_after}
 use Rattle.terms.proofs.store.Store.push.Goals as goal
 
--- the entry that is written lies past those in use
+-- the items in use after the parts are written
+written : (xs ps ys : List ℕ) (used : ℕ) → used ≤ length xs → ys ≡ ps → take (used + length ps) (put_mid used (used + length ps - used) xs ys) ≡ take used xs ++ ps
+written xs ps ys used l e =
+    take-put_mid used (used + length ps - used) xs ys (used + length ps) (ap (λ zs. used + length zs) (sym e)) l ∙ ap (λ zs. take used xs ++ zs) e
+
 pub invariant_of-self : goal.invariant_of-self
 invariant_of-self c =
-    let s = c.write_parts.new.self in
-    let w = c.write_parts.ensures in
-    let s0 = c.args.self.now in
-    let e : Entry = record { node = c.args.node; first = s0.used; hash = c.args.hash; next = get_or s0.buckets.now (c.args.hash % length s0.buckets.now) 0; facts = c.args.facts } in
-    let es = set s.entries.now s0.len e in
-    let r = room_of s in
-    let same : take s.len s.entries.now ≡ take s.len es = sym (take-set-le s.len s.entries.now s0.len e (omega (arith, w.len))) in
-    packed es s.buckets.now s.items.now s.len s.used s.limit s.room
-    (record {
-      within = r.within;
-      few = r.few;
-      indexed = r.indexed;
-      inside = r.inside;
-      few_items = r.few_items;
-      lent_items = r.lent_items;
-      lent = omega (arith, r.lent, length-set s.entries.now s0.len e);
-    })
-    (sound_at _ _ _ _ _ _ refl same refl (sound_of s))
-
-pub invariant_of-self-2 : goal.invariant_of-self-2
-invariant_of-self-2 c =
-    let s = c.write_parts.new.self in
-    let w = c.write_parts.ensures in
-    let s0 = c.args.self.now in
+    let s = c.self.inside in
+    let w = c.self.invariant in
     let ps = c.args.parts.now in
-    let b = c.args.hash % length s0.buckets.now in
-    let e : Entry = record { node = c.args.node; first = s0.used; hash = c.args.hash; next = get_or s0.buckets.now b 0; facts = c.args.facts } in
-    let es = set s.entries.now s0.len e in
-    let hd = set s.buckets.now b (s0.len + 1) in
-    let r = room_of s in
-    let p = c.requires in
-    let in_es : s0.len < length s.entries.now = omega (arith, r.lent, w.limit, p.entry) in
-    let own : entries_of s0 ++ e ∷ [] ≡ take (s0.len + 1) es = ap (λ xs. take s0.len xs ++ e ∷ []) (sym w.entries) ∙ sym (take_more_set s.entries.now s0.len e in_es) in
-    let firsts : set s0.buckets.now b (s0.len + 1) ≡ hd = ap (λ xs. set xs b (s0.len + 1)) (sym w.buckets) in
-    packed es hd s.items.now (s0.len + 1) (s0.used + length ps) s.limit s.room
-    (record {
-      within = omega (arith, p.entry, w.limit);
-      few = r.few;
-      few_items = r.few_items;
-      lent_items = r.lent_items;
-      lent = omega (arith, r.lent, length-set s.entries.now s0.len e);
-      indexed = omega (arith, r.indexed, length-set s.buckets.now b (s0.len + 1));
-      inside = omega (arith, p.room, w.room);
-    })
-    (sound_at _ _ _ _ _ _ (sym w.items) own firsts
-    (sound_pushed s0 e ps p.entry refl p.parts p.hash p.fit p.facts p.low.0 (omega (arith, p.low.1, p.parts)) p.fresh refl))
-
-pub returns : goal.returns
-returns c =
-    let s = c.write_parts.new.self in
-    let w = c.write_parts.ensures in
-    let s0 = c.args.self.now in
-    let ps = c.args.parts.now in
-    let b = c.args.hash % length s0.buckets.now in
-    let e : Entry = record { node = c.args.node; first = s0.used; hash = c.args.hash; next = get_or s0.buckets.now b 0; facts = c.args.facts } in
-    let es = set s.entries.now s0.len e in
-    let r = room_of s in
-    let p = c.requires in
-    let in_es : s0.len < length s.entries.now = omega (arith, r.lent, w.limit, p.entry) in
-    let own : take (s0.len + 1) es ≡ entries_of s0 ++ e ∷ [] = take_more_set s.entries.now s0.len e in_es ∙ ap (λ xs. take s0.len xs ++ e ∷ []) w.entries in
-    let after : held (take (s0.used + length ps) s.items.now) (take (s0.len + 1) es) ≡ trees s0 ++ tree_of (trees s0) (cell c.args.node ps) ∷ [] =
-    ap (λ xs. held xs (take (s0.len + 1) es)) w.items ∙ ap (held (pool_of s0 ++ ps)) own
-    ∙ trees_pushed s0 e ps p.entry refl p.parts p.hash p.fit
-    in
+    let e : Entry = record { node = c.args.node; first = s.used; hash = c.args.hash; next = get_or s.buckets.now (c.args.hash % length s.buckets.now) 0; facts = c.args.facts } in
+    let a : Addable (means s) (cell e.node ps) e.facts = subst (λ (m : Contents). Addable m (cell e.node ps) e.facts) (sym c.self.view_is) c.requires.addable in
+    let hash = c.requires.hash in
+    let items = written s.items.now ps c.copy_from_slice.new.self s.used (omega (arith, w.inside, w.lent_items)) c.copy_from_slice.ensures.after in
+    let after = trees-after s w e ps a refl hash refl _ items in
     record {
-      value = sym (length-held (pool_of s0) (entries_of s0) ∙ length-entries s0);
-      after =
-          ap (λ ts. record { trees = ts; entries = s.limit; items = s.room }) after
-          ∙ ap (λ k. record { trees = trees s0 ++ tree_of (trees s0) (cell c.args.node ps) ∷ []; entries = k; items = s.room }) w.limit
-          ∙ ap (λ k. record { trees = trees s0 ++ tree_of (trees s0) (cell c.args.node ps) ∷ []; entries = s0.limit; items = k }) w.room;
+      within = omega (arith, entry_left s w e ps a refl hash refl);
+      few = w.few;
+      lent = omega (arith, w.lent, length-set s.entries.now s.len e);
+      indexed = omega (arith, w.indexed, length-set s.buckets.now (c.args.hash % length s.buckets.now) (s.len + 1));
+      inside = items_left s w e ps a refl hash refl;
+      few_items = w.few_items;
+      lent_items = omega (arith, w.lent_items, same_len_mid s.used _ s.items.now c.copy_from_slice.new.self c.copy_from_slice.ensures.len);
+      long = omega (arith, w.long, ap length after, length_push (trees_of s) (tree_of (trees_of s) (cell e.node ps)));
+      sound = sound_after s w e ps a refl hash refl _ items;
     }
+
+pub returns-clause-after : goal.returns-clause-after
+returns-clause-after c =
+    let s = c.self.inside in
+    let w = c.self.invariant in
+    let ps = c.args.parts.now in
+    let e : Entry = record { node = c.args.node; first = s.used; hash = c.args.hash; next = get_or s.buckets.now (c.args.hash % length s.buckets.now) 0; facts = c.args.facts } in
+    let a : Addable (means s) (cell e.node ps) e.facts = subst (λ (m : Contents). Addable m (cell e.node ps) e.facts) (sym c.self.view_is) c.requires.addable in
+    let items = written s.items.now ps c.copy_from_slice.new.self s.used (omega (arith, w.inside, w.lent_items)) c.copy_from_slice.ensures.after in
+    rw (← c.self.view_is) (ap (λ ts. record { trees = ts; entries = s.limit; items = s.room }) (trees-after s w e ps a refl c.requires.hash refl _ items))

@@ -1,31 +1,33 @@
-use Rattle.std.proofs.Common.{◌-◌, ◌%◌, length, set, ap, arith}
+use Rattle.std.proofs.Common.{◌-◌, ◌%◌, ◌<◌, length, take, sym, ap, ◌∙◌, subst, arith}
 use Rattle.std.proofs.lemmas.List.{length-set}
-use Rattle.terms.proofs.Packed.{packed, room_of}
-use Rattle.terms.proofs.Shortened.{newest-entry, first_in, trees_cut, sound_shortened}
+use Rattle.theory.specs.Store.{Contents}
+use Rattle.terms.specs.Means.{trees_of}
+use Rattle.terms.proofs.Shortened.{newest-entry, first_in, trees_cut, long_cut, sound_shortened}
 use Rattle.terms.proofs.store.Store.shorten.Goals as goal
 
 pub invariant_of-self : goal.invariant_of-self
 invariant_of-self c =
-    let s = c.args.self.now in
-    let e = newest-entry s c.requires in
+    let s = c.self.inside in
+    let w = c.self.invariant in
+    let some : 0 < s.len = omega (arith, w.long, subst (λ (m : Contents). 0 < length m.trees) (sym c.self.view_is) c.requires) in
+    let e = newest-entry s w some in
     let hd = s.buckets.now in
-    let r = room_of s in
-    packed s.entries.now (set hd (e.hash % length hd) e.next) s.items.now (s.len - 1) e.first s.limit s.room
-    (record {
-      within = omega (arith, r.within);
-      few = r.few;
-      lent = r.lent;
-      indexed = omega (arith, r.indexed, length-set hd (e.hash % length hd) e.next);
-      inside = omega (arith, r.inside, first_in s c.requires);
-      few_items = r.few_items;
-      lent_items = r.lent_items;
-    })
-    (sound_shortened s c.requires)
+    record {
+      within = omega (arith, w.within);
+      few = w.few;
+      lent = w.lent;
+      indexed = omega (arith, w.indexed, length-set hd (e.hash % length hd) e.next);
+      inside = omega (arith, w.inside, first_in s w some);
+      few_items = w.few_items;
+      lent_items = w.lent_items;
+      long = long_cut s w some;
+      sound = sound_shortened s w some;
+    }
 
 pub returns : goal.returns
 returns c =
-    let s = c.args.self.now in
-    record {
-      after = ap (λ ts. record { trees = ts; entries = s.limit; items = s.room }) (trees_cut s c.requires);
-      len = omega (arith, c.requires);
-    }
+    let s = c.self.inside in
+    let w = c.self.invariant in
+    let some : 0 < s.len = omega (arith, w.long, subst (λ (m : Contents). 0 < length m.trees) (sym c.self.view_is) c.requires) in
+    rw (← c.self.view_is)
+    (ap (λ ts. record { trees = ts; entries = s.limit; items = s.room }) (trees_cut s w some ∙ ap (λ n. take (n - 1) (trees_of s)) w.long))
