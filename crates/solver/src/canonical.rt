@@ -2,6 +2,7 @@
 mod cache;
 mod canonicalizer;
 pub mod compare;
+mod fault;
 mod forms;
 mod scratch;
 

@@ -1,9 +1,12 @@
 // Tables for one call. Their memory is reserved when they are made, and no call allocates.
-ghost use Rattle.std.specs.Prelude.{◌≡◌, ◌<◌, ◌≤◌, [], ◌∷◌, ◌++◌, length, if◌then◌else◌, Some, None, vec_len, vec_capacity, MatchOption, nat_lt, slice_index_or};
-ghost use Rattle.solver.specs.Names.{first_where, is_leaf, in_class, is_class};
+ghost use Rattle.std.specs.Prelude.{◌≡◌, ◌<◌, ◌≤◌, [], ◌∷◌, ◌++◌, length, if◌then◌else◌, Some, None, IfSome, vec_len, vec_capacity, nat_lt};
+ghost use Rattle.std.specs.List.{position_from};
+ghost use Rattle.theory.specs.Limits.{most_names};
+ghost use Rattle.solver.specs.Names.{is_leaf, in_class};
 
 use crate::canonical::cache::Cache;
 use std::alloc::{AllocError, Global};
+use std::ops::Range;
 use theory::{Handle, Head, Kind, MOST_NAMES, StoreFault};
 
 // Terms that are open at once: a term of the greatest height opens itself, and every second one is a list.
@@ -20,22 +23,12 @@ pub struct Name {
     pub class: Option<u32>,
 }
 
-// Whether a name's class is this one.
-fn is_class(of: Option<u32>, class: u32) -> bool
-    ensures { result ≡ is_class of class }
-{
-    match of {
-        Some(root) => root == class,
-        None => false,
-    }
-}
-
 // The names in the order in which they are met.
 #[derive(Drop)]
 pub struct Names {
     list: Vec<Name>,
-    ghost few: { vec_len list ≤ 256 },
-    ghost reserved: { 256 ≤ vec_capacity list },
+    ghost few: { vec_len list ≤ most_names },
+    ghost reserved: { most_names ≤ vec_capacity list },
 }
 
 impl Names {
@@ -52,71 +45,51 @@ impl Names {
     }
 
     // The number that the next name takes, or none where all are taken.
-    pub fn next(&self) -> Option<u32>
-        ensures { result ≡ (if nat_lt (length self.now.list.items) 256 then Some (length self.now.list.items) else None) }
+    pub fn next(&self) -> Option<usize>
+        ensures { result ≡ (if nat_lt (length self.now.list.items) most_names then Some (length self.now.list.items) else None) }
     {
-        if self.list.len() >= MOST_NAMES as usize {
-            return None;
-        }
-        Some(self.list.len() as u32)
+        let number = self.list.len();
+        (number < MOST_NAMES as usize).then_some(number)
     }
 
-    pub fn get(&self, number: u32) -> Option<Name>
-        ensures { MatchOption result (vec_len self.now.list ≤ number) (λ x. (number < vec_len self.now.list) × ((d : Name) → x ≡ slice_index_or self.now.list.items number d)) }
+    pub fn as_slice(&self) -> &[Name]
+        ensures { result.now ≡ self.now.list.items }
     {
-        if number as usize >= self.list.len() {
-            return None;
-        }
-        Some(self.list[number as usize])
+        self.list.as_slice()
     }
 
     // The number of a leaf that is listed.
-    pub fn find(&self, original: Handle) -> Option<u32>
-        ensures { result ≡ first_where (is_leaf original) 0 self.now.list.items }
+    pub fn find(&self, original: Handle) -> Option<usize>
+        ensures first { result ≡ position_from (is_leaf original) 0 self.now.list.items }
+        ensures few { IfSome result (λ n. n < most_names) }
     {
-        for number in 0..MOST_NAMES {
-            let Some(name) = self.get(number) else {
-                return None;
-            };
-            if name.original == original {
-                return Some(number);
-            }
-        }
-        None
+        self.list.iter().position(|name| name.original == original)
     }
 
     // The first number of a type variable of a sub class.
-    pub fn first_of(&self, class: u32) -> Option<u32>
-        ensures { result ≡ first_where (in_class class) 0 self.now.list.items }
+    pub fn first_of(&self, class: u32) -> Option<usize>
+        ensures first { result ≡ position_from (in_class class) 0 self.now.list.items }
+        ensures few { IfSome result (λ n. n < most_names) }
     {
-        for number in 0..MOST_NAMES {
-            let Some(name) = self.get(number) else {
-                return None;
-            };
-            if is_class(name.class, class) {
-                return Some(number);
-            }
-        }
-        None
+        self.list.iter().position(|name| name.class == Some(class))
     }
 
-    // Lists one name more, where there is a number for it.
+    // Lists one name more.
     pub fn add(&mut self, name: Name)
-        ensures { length self.old.list.items < 256 → self.new.list.items ≡ self.old.list.items ++ name ∷ [] }
+        requires { length self.old.list.items < most_names }
+        ensures { self.new.list.items ≡ self.old.list.items ++ name ∷ [] }
     {
-        if self.list.len() < MOST_NAMES as usize {
-            self.list.push_reserved(name);
-        }
+        self.list.push_reserved(name);
     }
 }
 
-// A term that is open: how many of its parts are rewritten, and where these begin among the waiting ones.
-#[derive(Clone, Copy)]
+// A term that is open: the places of its parts that are still to be rewritten, and where the rewritten ones begin among the
+// waiting terms.
+#[derive(Drop)]
 pub struct Open {
     pub term: Handle,
     pub head: Head,
-    pub count: usize,
-    pub next: usize,
+    pub places: Range<usize>,
     pub base: usize,
 }
 
@@ -145,7 +118,7 @@ impl Scratch {
 }
 
 // Adds an element where there is memory for it: no term of a height that a store takes needs more than is reserved.
-pub fn put_reserved<T: Copy>(stack: &mut Vec<T>, x: T) -> Result<(), StoreFault> {
+pub fn put_reserved<T: Drop>(stack: &mut Vec<T>, x: T) -> Result<(), StoreFault> {
     if stack.len() >= stack.capacity() {
         return Err(StoreFault::TooHigh);
     }
