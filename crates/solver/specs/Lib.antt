@@ -3,4 +3,3 @@ pub mod Goals
 pub mod Differences
 pub mod Names
 pub mod Caches
-pub mod Walks

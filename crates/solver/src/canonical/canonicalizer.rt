@@ -3,7 +3,6 @@ ghost use Rattle.std.specs.Prelude.{◌≡◌, true, IfOk, IfErr};
 ghost use Rattle.theory.specs.Outcomes.{answered};
 ghost use Rattle.solver.specs.Goals.{leaf_variable, known, form_sort, entered, numbered};
 ghost use Rattle.solver.specs.Numbers.{call_number, of_goal};
-ghost use Rattle.solver.specs.Walks.{names};
 
 use crate::canonical::fault::GoalFault;
 use crate::canonical::forms::{Form, Part, form_in_goal};
@@ -78,7 +77,7 @@ impl Canonicalizer<'_, '_> {
     // Lists a new name under its number. Its kind is in universe 0; a type variable's sub root is the first listed number
     // of its sub class, a placeholder's number its own.
     fn enter(&mut self, term: Handle, form: Form) -> Result<u32, GoalFault>
-        ensures { (result, names self.new) ≡ answered (names self.old) (entered self.old.host.now (names self.old) term form) }
+        ensures { (result, self.new.tables.now.names) ≡ answered self.old.tables.now.names (entered self.old.host.now self.old.tables.now.names term form) }
     {
         let names = &mut self.tables.names;
         let Some(number) = names.next() else {
@@ -107,7 +106,7 @@ impl Canonicalizer<'_, '_> {
 
     // The number of a name: the one that it has, or the next.
     fn number_of(&mut self, term: Handle, form: Form) -> Result<u32, GoalFault>
-        ensures { (result, names self.new) ≡ answered (names self.old) (numbered self.old.host.now (names self.old) term form) }
+        ensures { (result, self.new.tables.now.names) ≡ answered self.old.tables.now.names (numbered self.old.host.now self.old.tables.now.names term form) }
     {
         match self.tables.names.find(term) {
             Some(number) => Ok(number as u32),

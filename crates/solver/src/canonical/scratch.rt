@@ -1,11 +1,12 @@
 // Tables for one call. Their memory is reserved when they are made, and no call allocates.
-ghost use Rattle.std.specs.Prelude.{◌≡◌, ◌<◌, ◌≤◌, [], ◌∷◌, ◌++◌, length, if◌then◌else◌, Some, None, IfSome, vec_len, vec_capacity, nat_lt};
+ghost use Rattle.std.specs.Prelude.{◌≡◌, ◌<◌, [], ◌∷◌, ◌++◌, length, if◌then◌else◌, Some, None, IfSome, nat_lt};
 ghost use Rattle.std.specs.List.{position_from};
 ghost use Rattle.theory.specs.Limits.{most_names};
 ghost use Rattle.solver.specs.Names.{is_leaf, in_class};
 
 use crate::canonical::cache::Cache;
 use std::alloc::{AllocError, Global};
+use std::marker::Model;
 use std::ops::Range;
 use theory::{Handle, Head, Kind, MOST_NAMES, StoreFault};
 
@@ -27,8 +28,18 @@ pub struct Name {
 #[derive(Drop)]
 pub struct Names {
     list: Vec<Name>,
-    ghost few: { vec_len list ≤ most_names },
-    ghost reserved: { most_names ≤ vec_capacity list },
+}
+
+impl Model for Names {
+    ghost use Rattle.std.specs.Prelude.{◌≤◌, List, vec_len, vec_capacity};
+    ghost use Rattle.theory.specs.Limits.{most_names};
+    ghost use Rattle.solver.specs.declared.canonical.scratch.Name.{Name};
+
+    ghost Value = { List Name };
+
+    ghost view = { λ n. n.list.items };
+
+    ghost invariant = { λ n. (vec_len n.list ≤ most_names) × (most_names ≤ vec_capacity n.list) };
 }
 
 impl Names {
@@ -39,28 +50,28 @@ impl Names {
     }
 
     pub fn clear(&mut self)
-        ensures { self.new.list.items ≡ [] }
+        ensures { self.new ≡ [] }
     {
         self.list.clear();
     }
 
     // The number that the next name takes, or none where all are taken.
     pub fn next(&self) -> Option<usize>
-        ensures { result ≡ (if nat_lt (length self.now.list.items) most_names then Some (length self.now.list.items) else None) }
+        ensures { result ≡ (if nat_lt (length self.now) most_names then Some (length self.now) else None) }
     {
         let number = self.list.len();
         (number < MOST_NAMES as usize).then_some(number)
     }
 
     pub fn as_slice(&self) -> &[Name]
-        ensures { result.now ≡ self.now.list.items }
+        ensures { result.now ≡ self.now }
     {
         self.list.as_slice()
     }
 
     // The number of a leaf that is listed.
     pub fn find(&self, original: Handle) -> Option<usize>
-        ensures first { result ≡ position_from (is_leaf original) 0 self.now.list.items }
+        ensures first { result ≡ position_from (is_leaf original) 0 self.now }
         ensures few { IfSome result (λ n. n < most_names) }
     {
         self.list.iter().position(|name| name.original == original)
@@ -68,7 +79,7 @@ impl Names {
 
     // The first number of a type variable of a sub class.
     pub fn first_of(&self, class: u32) -> Option<usize>
-        ensures first { result ≡ position_from (in_class class) 0 self.now.list.items }
+        ensures first { result ≡ position_from (in_class class) 0 self.now }
         ensures few { IfSome result (λ n. n < most_names) }
     {
         self.list.iter().position(|name| name.class == Some(class))
@@ -76,8 +87,8 @@ impl Names {
 
     // Lists one name more.
     pub fn add(&mut self, name: Name)
-        requires { length self.old.list.items < most_names }
-        ensures { self.new.list.items ≡ self.old.list.items ++ name ∷ [] }
+        requires { length self.old < most_names }
+        ensures { self.new ≡ self.old ++ name ∷ [] }
     {
         self.list.push_reserved(name);
     }
