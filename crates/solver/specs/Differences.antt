@@ -1,6 +1,8 @@
 -- What the first difference of two canonical goals says.
 use Rattle.std.specs.Prelude.{◌≡◌, ℕ, Some, None, Option}
 use Rattle.solver.specs.declared.canonical.CanonicalGoal.{CanonicalGoal}
+use Rattle.solver.specs.declared.canonical.forms.Part.{Part}
+use Rattle.solver.specs.declared.canonical.forms.Part.TheVariants.{Environment, Value as value, Opaques as opaques}
 use Rattle.solver.specs.declared.canonical.compare.Difference.{Difference}
 use Rattle.solver.specs.declared.canonical.compare.Difference.TheVariants.{Mode, NameCount, Kind, Env, Value, Opaques}
 
@@ -20,6 +22,12 @@ OfKinds (Kind k x y) = Differ x y
 OfKinds (Env x y) = ⊥
 OfKinds (Value x y) = ⊥
 OfKinds (Opaques x y) = ⊥
+
+-- the difference of two terms that stand in a part
+abbrev pub difference_in : Part → ℕ → ℕ → Difference
+difference_in Environment x y = Env x y
+difference_in value x y = Value x y
+difference_in opaques x y = Opaques x y
 
 -- There is none only where typing modes, kinds, environments, values and opaque pairs are the same; else it speaks of the
 -- first of these that is not, and names two modes or terms that differ.

@@ -247,8 +247,8 @@ impl Canonicalizer<'_, '_> {
         ensures { IfOk result (λ a. (a.1.max_universe ≡ 0) × (a.1.goal.mode ≡ goal.mode)) }
     {
         check_handles(self.store, goal)?;
-        for term in [goal.env, goal.value, goal.opaques] {
-            check_no_canonical(self.store, term)?;
+        for part in Part::ALL {
+            check_no_canonical(self.store, goal.term(part))?;
         }
         let rewritten = self.rewrite_goal(goal)?;
         let kinds = self.add_list(ListSort::Kinds, |store, name| {

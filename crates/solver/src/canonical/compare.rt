@@ -1,8 +1,10 @@
 // Where two canonical goals first differ.
-ghost use Rattle.std.specs.Prelude.{IfOk};
-ghost use Rattle.solver.specs.Differences.{Differ, Apart, OfKinds, Tells};
+ghost use Rattle.std.specs.Prelude.{◌≡◌, IfOk, find, not, ◌==◌};
+ghost use Rattle.solver.specs.Parts.{term_in};
+ghost use Rattle.solver.specs.Differences.{Differ, Apart, OfKinds, Tells, difference_in};
 
-use crate::canonical::CanonicalGoal;
+use crate::canonical::forms::Part;
+use crate::canonical::{CanonicalGoal, Goal};
 use terms::Store;
 use theory::{Handle, Head, LONGEST, ListSort, Node, StoreFault};
 
@@ -17,6 +19,19 @@ pub enum Difference {
     Env(Handle, Handle),
     Value(Handle, Handle),
     Opaques(Handle, Handle),
+}
+
+impl Difference {
+    // The difference of two terms that stand in this part.
+    fn in_part(part: Part, x: Handle, y: Handle) -> Difference
+        ensures { result ≡ difference_in part x y }
+    {
+        match part {
+            Part::Environment => Difference::Env(x, y),
+            Part::Value => Difference::Value(x, y),
+            Part::Opaques => Difference::Opaques(x, y),
+        }
+    }
 }
 
 // Steps from a term of the greatest height to a leaf: every second one is a list.
@@ -91,6 +106,16 @@ fn compare_kinds(store: &Store, a: Handle, b: Handle) -> Result<Difference, Stor
     Ok(Difference::NameCount(count, other))
 }
 
+// The first of the parts in which two goals have different terms.
+fn differing_part(parts: &[Part], a: Goal, b: Goal) -> Option<Part>
+    ensures { result ≡ find (λ p. not (term_in p a == term_in p b)) parts.now }
+{
+    parts
+        .iter()
+        .copied()
+        .find(|part| a.term(*part) != b.term(*part))
+}
+
 // Where two canonical goals differ, or none where they are equal: first the typing modes, then the kinds, then environment,
 // value and opaque pairs. The largest universe of each is 0. Of equal ones, name k of one is paired with name k of the other.
 pub fn compare(
@@ -106,17 +131,9 @@ pub fn compare(
     if a.kinds != b.kinds {
         return Ok(Some(compare_kinds(store, a.kinds, b.kinds)?));
     }
-    if a.goal.env != b.goal.env {
-        let (x, y) = smallest(store, a.goal.env, b.goal.env)?;
-        return Ok(Some(Difference::Env(x, y)));
-    }
-    if a.goal.value != b.goal.value {
-        let (x, y) = smallest(store, a.goal.value, b.goal.value)?;
-        return Ok(Some(Difference::Value(x, y)));
-    }
-    if a.goal.opaques != b.goal.opaques {
-        let (x, y) = smallest(store, a.goal.opaques, b.goal.opaques)?;
-        return Ok(Some(Difference::Opaques(x, y)));
-    }
-    Ok(None)
+    let Some(part) = differing_part(&Part::ALL, a.goal, b.goal) else {
+        return Ok(None);
+    };
+    let (x, y) = smallest(store, a.goal.term(part), b.goal.term(part))?;
+    Ok(Some(Difference::in_part(part, x, y)))
 }
