@@ -1,7 +1,7 @@
 // Where two canonical goals first differ.
-ghost use Rattle.std.specs.Prelude.{◌≡◌, IfOk, find, not, ◌==◌};
+ghost use Rattle.std.specs.Prelude.{◌≡◌, ◌≢◌, not, ◌==◌, find, IfOk, IfSome};
 ghost use Rattle.solver.specs.Parts.{term_in};
-ghost use Rattle.solver.specs.Differences.{Differ, Apart, OfKinds, Tells, difference_in};
+ghost use Rattle.solver.specs.Differences.{OfKinds, Tells, difference_in};
 
 use crate::canonical::forms::Part;
 use crate::canonical::{CanonicalGoal, Goal};
@@ -43,7 +43,7 @@ fn differing_parts(
     a: Handle,
     b: Handle,
 ) -> Result<Option<(Handle, Handle)>, StoreFault>
-    ensures { IfOk result Apart }
+    ensures { IfOk result (λ found. IfSome found (λ p. p.0 ≢ p.1)) }
 {
     let count = match (store.get(a)?, store.get(b)?) {
         (Node::Over(head, count), Node::Over(other, others)) if head == other && count == others =>
@@ -62,8 +62,8 @@ fn differing_parts(
 
 // Of two terms that differ, the two smallest subterms that do, the first in walk order.
 fn smallest(store: &Store, a: Handle, b: Handle) -> Result<(Handle, Handle), StoreFault>
-    requires { Differ a b }
-    ensures { IfOk result (λ p. Differ p.0 p.1) }
+    requires { a ≢ b }
+    ensures { IfOk result (λ p. p.0 ≢ p.1) }
 {
     let mut x = a;
     let mut y = b;
