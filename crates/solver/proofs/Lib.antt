@@ -1,1 +1,2 @@
+mod Smaller
 mod Tables

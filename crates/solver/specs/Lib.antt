@@ -4,3 +4,4 @@ pub mod Differences
 pub mod Names
 pub mod Caches
 pub mod Parts
+pub mod Sizes

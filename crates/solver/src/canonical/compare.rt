@@ -1,5 +1,7 @@
 // Where two canonical goals first differ.
-ghost use Rattle.std.specs.Prelude.{◌≡◌, ◌≢◌, not, ◌==◌, find, IfOk, IfSome};
+ghost use Rattle.std.specs.Prelude.{◌≡◌, ◌≢◌, ◌<◌, not, ◌==◌, find, IfOk, IfSome};
+ghost use Rattle.terms.specs.Means.{trees};
+ghost use Rattle.solver.specs.Sizes.{size_at};
 ghost use Rattle.solver.specs.Parts.{term_in};
 ghost use Rattle.solver.specs.Differences.{OfKinds, Tells, difference_in};
 
@@ -34,16 +36,14 @@ impl Difference {
     }
 }
 
-// Steps from a term of the greatest height to a leaf: every second one is a list.
-const MOST_STEPS: u32 = 128;
-
 // The first two parts that differ, of two terms with one head and as many parts.
 fn differing_parts(
     store: &Store,
     a: Handle,
     b: Handle,
 ) -> Result<Option<(Handle, Handle)>, StoreFault>
-    ensures { IfOk result (λ found. IfSome found (λ p. p.0 ≢ p.1)) }
+    ensures apart { IfOk result (λ found. IfSome found (λ p. p.0 ≢ p.1)) }
+    ensures smaller { IfOk result (λ found. IfSome found (λ p. size_at (trees store.now) p.0 < size_at (trees store.now) a)) }
 {
     let count = match (store.get(a)?, store.get(b)?) {
         (Node::Over(head, count), Node::Over(other, others)) if head == other && count == others =>
@@ -65,16 +65,10 @@ fn smallest(store: &Store, a: Handle, b: Handle) -> Result<(Handle, Handle), Sto
     requires { a ≢ b }
     ensures { IfOk result (λ p. p.0 ≢ p.1) }
 {
-    let mut x = a;
-    let mut y = b;
-    for _ in 0..MOST_STEPS {
-        match differing_parts(store, x, y)? {
-            Some((p, q)) => {
-                x = p;
-                y = q;
-            }
-            None => break,
-        }
+    let (mut x, mut y) = (a, b);
+    while let Some((p, q)) = differing_parts(store, x, y)? {
+        x = p;
+        y = q;
     }
     Ok((x, y))
 }
