@@ -20,7 +20,7 @@ use Rattle.host.specs.declared.plain.PlainHost.{PlainHost}
 use Rattle.solver.specs.Names.{is_leaf, in_class}
 use Rattle.solver.specs.declared.canonical.fault.GoalFault.{GoalFault}
 use Rattle.solver.specs.declared.canonical.fault.GoalFault.TheVariants.{UnknownVariable, TooManyNames}
-use Rattle.solver.specs.declared.canonical.scratch.Name.{Name}
+use Rattle.solver.specs.declared.canonical.names.Name.{Name}
 use Rattle.solver.specs.declared.canonical.forms.Part.{Part}
 use Rattle.solver.specs.declared.canonical.forms.Part.TheVariants.{Environment, Value, Opaques}
 use Rattle.solver.specs.declared.canonical.forms.Form.{Form}

@@ -1,6 +1,6 @@
 -- The names of a goal, in the order in which they are met.
 use Rattle.std.specs.Prelude.{ℕ, Bool, false, Some, None, Option, ◌==◌}
-use Rattle.solver.specs.declared.canonical.scratch.Name.{Name}
+use Rattle.solver.specs.declared.canonical.names.Name.{Name}
 
 -- a name is this leaf
 abbrev pub is_leaf : ℕ → Name → Bool

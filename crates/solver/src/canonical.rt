@@ -4,6 +4,7 @@ mod canonicalizer;
 pub mod compare;
 mod fault;
 mod forms;
+mod names;
 mod scratch;
 
 ghost use Rattle.std.specs.Prelude.{◌≡◌};

@@ -1,18 +1,16 @@
 // The canonicalizer: names become canonical variables, in walk order, parts before wholes.
 ghost use Rattle.std.specs.Prelude.{◌≡◌, true, IfOk, IfErr};
-ghost use Rattle.theory.specs.Outcomes.{answered};
-ghost use Rattle.solver.specs.Goals.{leaf_variable, known, form_sort, entered, numbered};
+ghost use Rattle.solver.specs.Goals.{leaf_variable, known, form_sort};
 ghost use Rattle.solver.specs.Numbers.{call_number, of_goal};
 
 use crate::canonical::fault::GoalFault;
 use crate::canonical::forms::{Form, Part, form_in_goal};
-use crate::canonical::scratch::{Name, Open, Scratch, put_reserved};
+use crate::canonical::names::Name;
+use crate::canonical::scratch::{Open, Scratch, put_reserved};
 use crate::canonical::{CallFault, CanonicalGoal, Goal, Question};
 use host::PlainHost;
 use terms::Store;
-use theory::{
-    ArgSort, Flags, Handle, Head, Kind, Leaf, ListSort, Node, Sort, StoreFault, VariableSort,
-};
+use theory::{ArgSort, Flags, Handle, Head, Leaf, ListSort, Node, Sort, StoreFault, VariableSort};
 
 // The variable that a leaf is.
 fn variable(leaf: Leaf) -> Option<(VariableSort, u32)>
@@ -74,46 +72,6 @@ struct Canonicalizer<'a, 's> {
 }
 
 impl Canonicalizer<'_, '_> {
-    // Lists a new name under its number. Its kind is in universe 0; a type variable's sub root is the first listed number
-    // of its sub class, a placeholder's number its own.
-    fn enter(&mut self, term: Handle, form: Form) -> Result<u32, GoalFault>
-        ensures { (result, self.new.tables.now.names) ≡ answered self.old.tables.now.names (entered self.old.host.now self.old.tables.now.names term form) }
-    {
-        let names = &mut self.tables.names;
-        let Some(number) = names.next() else {
-            return Err(GoalFault::TooManyNames(term));
-        };
-        let (kind, class) = match form {
-            Form::Ty(variable) => {
-                let Ok(root) = self.host.root(variable) else {
-                    return Err(GoalFault::UnknownVariable(VariableSort::Ty, variable));
-                };
-                let sub_root = names.first_of(root).unwrap_or(number);
-                (Kind::Ty(0, sub_root as u32), Some(root))
-            }
-            Form::Int => (Kind::Int, None),
-            Form::Float => (Kind::Float, None),
-            Form::Const => (Kind::Const(0), None),
-            Form::Placeholder(sort) => (Kind::Placeholder(sort, 0, number as u32), None),
-        };
-        names.add(Name {
-            original: term,
-            kind,
-            class,
-        });
-        Ok(number as u32)
-    }
-
-    // The number of a name: the one that it has, or the next.
-    fn number_of(&mut self, term: Handle, form: Form) -> Result<u32, GoalFault>
-        ensures { (result, self.new.tables.now.names) ≡ answered self.old.tables.now.names (numbered self.old.host.now self.old.tables.now.names term form) }
-    {
-        match self.tables.names.find(term) {
-            Some(number) => Ok(number as u32),
-            None => self.enter(term, form),
-        }
-    }
-
     // A leaf, rewritten. It refuses 4, then 13, then 15, then 2.
     fn rewrite_leaf(&mut self, term: Handle, leaf: Leaf) -> Result<Handle, GoalFault> {
         let Some(form) = form_in_goal(self.part, leaf) else {
@@ -123,7 +81,7 @@ impl Canonicalizer<'_, '_> {
         if self.part == Part::Environment && matches!(form, Form::Ty(_)) {
             return Err(GoalFault::TypeVariableInEnvironment(term));
         }
-        let number = self.number_of(term, form)?;
+        let number = self.tables.names.number_of(self.host, term, form)?;
         Ok(self.store.add_leaf(Leaf::Canonical(sort_of(form), number))?)
     }
 
