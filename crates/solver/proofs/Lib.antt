@@ -1,2 +1,2 @@
-mod Firsts
+mod Smaller
 mod Tables

@@ -1,5 +1,6 @@
 -- Which leaves of a goal are names, the form of the kind that each gets, and how names are listed.
 use Rattle.std.specs.Prelude.{ℕ, cond, List, [], ◌∷◌, ◌++◌, length, Some, None, Ok, Err, Option, Result, nat_lt}
+use Rattle.std.specs.List.{position_from}
 use Rattle.std.specs.Option.{unwrap_or}
 use Rattle.theory.specs.declared.words.ArgSort.{ArgSort}
 use Rattle.theory.specs.declared.words.ArgSort.TheVariants.{Ty as ty, Region as region, Const as const}
@@ -9,16 +10,17 @@ use Rattle.theory.specs.declared.words.Leaf.{Leaf}
 use Rattle.theory.specs.declared.words.Leaf.TheVariants.{Variable, RegionVariable, Parameter, LateParameter, Placeholder, Bound, Canonical, Error, Static, Erased, Kind as AKind}
 use Rattle.theory.specs.declared.words.Kind.{Kind}
 use Rattle.theory.specs.declared.words.Kind.TheVariants.{Ty as KTy, Int as KInt, Float as KFloat, Const as KConst, Placeholder as KPlaceholder}
+use Rattle.theory.specs.Limits.{most_names}
+use Rattle.theory.specs.Log.{of_var}
 use Rattle.host.specs.Hosts.{count, rooted}
 use Rattle.host.specs.declared.fault.HostFault.{HostFault}
-use Rattle.host.specs.declared.fault.HostFault.TheVariants.{UnknownVariable}
 use Rattle.theory.specs.declared.words.VariableSort.{VariableSort}
-use Rattle.theory.specs.declared.words.VariableSort.TheVariants.{Ty as h_ty, Int as h_int, Float as h_float, Region as h_region, Const as h_const}
+use Rattle.theory.specs.declared.words.VariableSort.TheVariants.{Ty as h_ty, Region as h_region}
 use Rattle.host.specs.declared.plain.PlainHost.{PlainHost}
-use Rattle.solver.specs.Names.{first_where, is_leaf, in_class}
-use Rattle.solver.specs.declared.canonical.CallFault.{CallFault}
-use Rattle.solver.specs.declared.canonical.CallFault.TheVariants.{Host, TooManyNames}
-use Rattle.solver.specs.declared.canonical.scratch.Name.{Name}
+use Rattle.solver.specs.Names.{is_leaf, in_class}
+use Rattle.solver.specs.declared.canonical.fault.GoalFault.{GoalFault}
+use Rattle.solver.specs.declared.canonical.fault.GoalFault.TheVariants.{UnknownVariable, TooManyNames}
+use Rattle.solver.specs.declared.canonical.names.Name.{Name}
 use Rattle.solver.specs.declared.canonical.forms.Part.{Part}
 use Rattle.solver.specs.declared.canonical.forms.Part.TheVariants.{Environment, Value, Opaques}
 use Rattle.solver.specs.declared.canonical.forms.Form.{Form}
@@ -65,14 +67,8 @@ form_sort FConst = const
 form_sort (FPlaceholder a) = a
 
 -- the variable that a leaf is
-abbrev pub host_sort : VarSort → VariableSort
-host_sort v_ty = h_ty
-host_sort v_int = h_int
-host_sort v_float = h_float
-host_sort v_const = h_const
-
 abbrev pub leaf_variable : Leaf → Option (VariableSort × ℕ)
-leaf_variable (Variable s n) = Some (host_sort s, n)
+leaf_variable (Variable s n) = Some (of_var s, n)
 leaf_variable (RegionVariable n) = Some (h_region, n)
 leaf_variable (Parameter a n) = None
 leaf_variable (LateParameter n) = None
@@ -85,40 +81,41 @@ leaf_variable Erased = None
 leaf_variable (AKind k) = None
 
 -- 4 for a variable that the host has not made
-abbrev pub known_at : PlainHost → Option (VariableSort × ℕ) → Result (Unit {0}) HostFault
+abbrev pub known_at : PlainHost → Option (VariableSort × ℕ) → Result (Unit {0}) GoalFault
 known_at h None = Ok tt
 known_at h (Some p) = cond (nat_lt p.1 (count h p.0)) (Ok tt) (Err (UnknownVariable p.0 p.1))
 
-abbrev pub known : PlainHost → Leaf → Result (Unit {0}) HostFault
+abbrev pub known : PlainHost → Leaf → Result (Unit {0}) GoalFault
 known h x = known_at h (leaf_variable x)
 
 -- the sub root that a type variable of a class gets behind the names before it: the first of its class, or its own number
 abbrev pub sub_root : List Name → ℕ → ℕ
-sub_root xs c = unwrap_or (first_where (in_class c) 0 xs) (length xs)
+sub_root xs c = unwrap_or (position_from (in_class c) 0 xs) (length xs)
 
 -- a new name: all kinds are in universe 0, a placeholder has its own number
-abbrev pub new_name : List Name → ℕ → Kind → Option ℕ → Result (ℕ × List Name) CallFault
+abbrev pub new_name : List Name → ℕ → Kind → Option ℕ → Result (ℕ × List Name) GoalFault
 new_name xs t k c = Ok (length xs, xs ++ (record { original = t; kind = k; class = c } ∷ []))
 
-abbrev pub of_class : List Name → ℕ → Result ℕ HostFault → Result (ℕ × List Name) CallFault
-of_class xs t (Ok c) = new_name xs t (KTy 0 (sub_root xs c)) (Some c)
-of_class xs t (Err e) = Err (Host e)
+-- the only fault of a root is that the host has not made the type variable
+abbrev pub of_class : List Name → ℕ → ℕ → Result ℕ HostFault → Result (ℕ × List Name) GoalFault
+of_class xs t v (Ok c) = new_name xs t (KTy 0 (sub_root xs c)) (Some c)
+of_class xs t v (Err e) = Err (UnknownVariable h_ty v)
 
-abbrev pub formed : PlainHost → List Name → ℕ → Form → Result (ℕ × List Name) CallFault
-formed h xs t (FTy v) = of_class xs t (rooted h v)
+abbrev pub formed : PlainHost → List Name → ℕ → Form → Result (ℕ × List Name) GoalFault
+formed h xs t (FTy v) = of_class xs t v (rooted h v)
 formed h xs t FInt = new_name xs t KInt None
 formed h xs t FFloat = new_name xs t KFloat None
 formed h xs t FConst = new_name xs t (KConst 0) None
 formed h xs t (FPlaceholder a) = new_name xs t (KPlaceholder a 0 (length xs)) None
 
--- 15 where there are 256 names
-abbrev pub entered : PlainHost → List Name → ℕ → Form → Result (ℕ × List Name) CallFault
-entered h xs t f = cond (nat_lt (length xs) 256) (formed h xs t f) (Err (TooManyNames t))
+-- 15 where all names are taken
+abbrev pub entered : PlainHost → List Name → ℕ → Form → Result (ℕ × List Name) GoalFault
+entered h xs t f = cond (nat_lt (length xs) most_names) (formed h xs t f) (Err (TooManyNames t))
 
 -- the number that a name has, or the next
-abbrev pub numbered_at : PlainHost → List Name → ℕ → Form → Option ℕ → Result (ℕ × List Name) CallFault
+abbrev pub numbered_at : PlainHost → List Name → ℕ → Form → Option ℕ → Result (ℕ × List Name) GoalFault
 numbered_at h xs t f (Some n) = Ok (n, xs)
 numbered_at h xs t f None = entered h xs t f
 
-abbrev pub numbered : PlainHost → List Name → ℕ → Form → Result (ℕ × List Name) CallFault
-numbered h xs t f = numbered_at h xs t f (first_where (is_leaf t) 0 xs)
+abbrev pub numbered : PlainHost → List Name → ℕ → Form → Result (ℕ × List Name) GoalFault
+numbered h xs t f = numbered_at h xs t f (position_from (is_leaf t) 0 xs)

@@ -3,3 +3,5 @@ pub mod Goals
 pub mod Differences
 pub mod Names
 pub mod Caches
+pub mod Parts
+pub mod Sizes

@@ -1,11 +1,6 @@
 -- The names of a goal, in the order in which they are met.
-use Rattle.std.specs.Prelude.{ℕ, ◌+◌, Bool, false, cond, List, [], ◌∷◌, Some, None, Option, ◌==◌}
-use Rattle.solver.specs.declared.canonical.scratch.Name.{Name}
-
--- the number of the first name that passes a test, counted from k
-abbrev pub first_where : (Name → Bool) → ℕ → List Name → Option ℕ
-first_where f k [] = None
-first_where f k (x ∷ xs) = cond (f x) (Some k) (first_where f (k + 1) xs)
+use Rattle.std.specs.Prelude.{ℕ, Bool, false, Some, None, Option, ◌==◌}
+use Rattle.solver.specs.declared.canonical.names.Name.{Name}
 
 -- a name is this leaf
 abbrev pub is_leaf : ℕ → Name → Bool

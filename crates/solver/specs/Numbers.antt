@@ -2,10 +2,11 @@
 -- environment; 14 environment in the value; 15 a name too many.
 use Rattle.std.specs.Prelude.{ℕ, Bool, ◌||◌, ◌==◌}
 use Rattle.host.specs.Numbers.{host_number}
-use Rattle.host.specs.declared.fault.HostFault.{HostFault}
-use Rattle.host.specs.declared.fault.HostFault.TheVariants.{Store, UnknownVariable, UnknownUniverse, LogFull}
+use Rattle.host.specs.declared.fault.HostFault.TheVariants.{Store, UnknownVariable}
 use Rattle.solver.specs.declared.canonical.CallFault.{CallFault}
 use Rattle.solver.specs.declared.canonical.CallFault.TheVariants.{Host, CanonicalPresent, TypeVariableInEnvironment, EnvironmentInValue, TooManyNames}
+use Rattle.solver.specs.declared.canonical.fault.GoalFault.{GoalFault}
+use Rattle.solver.specs.declared.canonical.fault.GoalFault.TheVariants.{Store as in_store, UnknownVariable as unknown_variable, CanonicalPresent as canonical_present, TypeVariableInEnvironment as type_variable_in_environment, EnvironmentInValue as environment_in_value, TooManyNames as too_many_names}
 
 abbrev pub call_number : CallFault → ℕ
 call_number (Host f) = host_number f
@@ -18,16 +19,11 @@ call_number (TooManyNames t) = 15
 abbrev pub of_goal : ℕ → Bool
 of_goal n = n == 1 || n == 2 || n == 3 || n == 4 || n == 11 || n == 13 || n == 14 || n == 15
 
--- a fault that canonicalizing a goal can give: a log is not written to
-abbrev pub HostFaultOfGoal : HostFault → Type 0
-HostFaultOfGoal (Store f) = Unit {0}
-HostFaultOfGoal (UnknownVariable s n) = Unit {0}
-HostFaultOfGoal (UnknownUniverse u) = Unit {0}
-HostFaultOfGoal LogFull = ⊥
-
-abbrev pub FaultOfGoal : CallFault → Type 0
-FaultOfGoal (Host f) = HostFaultOfGoal f
-FaultOfGoal (CanonicalPresent t) = Unit {0}
-FaultOfGoal (TypeVariableInEnvironment t) = Unit {0}
-FaultOfGoal (EnvironmentInValue t) = Unit {0}
-FaultOfGoal (TooManyNames t) = Unit {0}
+-- a fault of canonicalizing a goal as that of the call
+abbrev pub goal_fault : GoalFault → CallFault
+goal_fault (in_store f) = Host (Store f)
+goal_fault (unknown_variable s n) = Host (UnknownVariable s n)
+goal_fault (canonical_present t) = CanonicalPresent t
+goal_fault (type_variable_in_environment t) = TypeVariableInEnvironment t
+goal_fault (environment_in_value t) = EnvironmentInValue t
+goal_fault (too_many_names t) = TooManyNames t

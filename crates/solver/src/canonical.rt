@@ -2,15 +2,19 @@
 mod cache;
 mod canonicalizer;
 pub mod compare;
+mod fault;
 mod forms;
+mod names;
 mod scratch;
 
 ghost use Rattle.std.specs.Prelude.{◌≡◌};
+ghost use Rattle.solver.specs.Parts.{term_in};
 ghost use Rattle.solver.specs.Numbers.{call_number};
 ghost use Rattle.solver.specs.declared.canonical.CallFault.TheVariants.{Host as in_host};
 ghost use Rattle.host.specs.declared.fault.HostFault.TheVariants.{Store as in_store};
 
 pub use canonicalizer::canonicalize_goal;
+use forms::Part;
 use host::HostFault;
 pub use scratch::Scratch;
 use theory::{Handle, StoreFault, Universe};
@@ -22,6 +26,19 @@ pub struct Goal {
     pub value: Handle,
     pub opaques: Handle,
     pub mode: u8,
+}
+
+impl Goal {
+    // The term that stands in this part.
+    fn term(self, part: Part) -> Handle
+        ensures { result ≡ term_in part self }
+    {
+        match part {
+            Part::Environment => self.env,
+            Part::Value => self.value,
+            Part::Opaques => self.opaques,
+        }
+    }
 }
 
 // A goal whose names are canonical variables, with the list of their kinds. Equal terms have one handle, so two are equal

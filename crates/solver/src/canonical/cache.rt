@@ -41,7 +41,7 @@ impl Cache {
         ensures { (t : ℕ) → held self.new.round self.new.table.items t ≡ None }
     {
         if self.round == u32::MAX {
-            vacate(&mut self.table);
+            self.table.fill(Cached::VACANT);
             self.round = 1;
         } else {
             self.round += 1;
@@ -51,35 +51,19 @@ impl Cache {
     pub fn get(&self, term: Handle) -> Option<Handle>
         ensures { result ≡ held self.now.round self.now.table.items term }
     {
-        if term as usize >= self.table.len() {
-            return None;
-        }
-        let cached = self.table[term as usize];
-        if cached.round == self.round {
-            Some(cached.result)
-        } else {
-            None
-        }
+        let cached = self.table.get(term as usize)?;
+        (cached.round == self.round).then_some(cached.result)
     }
 
     // A term beyond the table is not kept, which changes no result.
     pub fn put(&mut self, term: Handle, res: Handle)
         ensures { (self.new.round ≡ self.old.round) × (self.new.table.items ≡ slice_set self.old.table.items term (kept_in self.old.round res)) }
     {
-        if (term as usize) < self.table.len() {
-            self.table[term as usize] = Cached {
+        if let Some(cached) = self.table.get_mut(term as usize) {
+            *cached = Cached {
                 round: self.round,
                 result: res,
             };
         }
-    }
-}
-
-// Makes every place of a table vacant.
-fn vacate(table: &mut Vec<Cached>)
-    ensures { (t : ℕ) → slice_index_or table.new.items t vacant ≡ vacant }
-{
-    for cached in table.iter_mut() {
-        *cached = Cached::VACANT;
     }
 }

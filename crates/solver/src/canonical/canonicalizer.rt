@@ -1,40 +1,34 @@
 // The canonicalizer: names become canonical variables, in walk order, parts before wholes.
 ghost use Rattle.std.specs.Prelude.{◌≡◌, true, IfOk, IfErr};
-ghost use Rattle.theory.specs.Outcomes.{answered};
-ghost use Rattle.solver.specs.Goals.{leaf_variable, known, form_sort, entered, numbered};
-ghost use Rattle.solver.specs.Numbers.{call_number, of_goal, FaultOfGoal, HostFaultOfGoal};
+ghost use Rattle.solver.specs.Goals.{leaf_variable, known, form_sort};
+ghost use Rattle.solver.specs.Numbers.{call_number, of_goal};
 
+use crate::canonical::fault::GoalFault;
 use crate::canonical::forms::{Form, Part, form_in_goal};
-use crate::canonical::scratch::{Name, Names, Open, Scratch, put_reserved};
+use crate::canonical::names::Name;
+use crate::canonical::scratch::{Open, Scratch, put_reserved};
 use crate::canonical::{CallFault, CanonicalGoal, Goal, Question};
-use host::{HostFault, PlainHost};
+use host::PlainHost;
 use terms::Store;
-use theory::{
-    ArgSort, Flags, Handle, Head, Kind, Leaf, ListSort, MOST_NAMES, Node, Sort, StoreFault,
-    VarSort, VariableSort,
-};
+use theory::{ArgSort, Flags, Handle, Head, Leaf, ListSort, Node, Sort, StoreFault, VariableSort};
 
 // The variable that a leaf is.
 fn variable(leaf: Leaf) -> Option<(VariableSort, u32)>
     ensures { result ≡ leaf_variable leaf }
 {
     match leaf {
-        Leaf::Variable(VarSort::Ty, number) => Some((VariableSort::Ty, number)),
-        Leaf::Variable(VarSort::Int, number) => Some((VariableSort::Int, number)),
-        Leaf::Variable(VarSort::Float, number) => Some((VariableSort::Float, number)),
-        Leaf::Variable(VarSort::Const, number) => Some((VariableSort::Const, number)),
+        Leaf::Variable(sort, number) => Some((VariableSort::from(sort), number)),
         Leaf::RegionVariable(number) => Some((VariableSort::Region, number)),
         _ => None,
     }
 }
 
 // Refuses 4 for a variable that the host has not made.
-fn check_known(host: &PlainHost, leaf: Leaf) -> Result<(), HostFault>
-    ensures answer { result ≡ known host.now leaf }
-    ensures faults { IfErr result HostFaultOfGoal }
+fn check_known(host: &PlainHost, leaf: Leaf) -> Result<(), GoalFault>
+    ensures { result ≡ known host.now leaf }
 {
     match variable(leaf) {
-        Some((sort, number)) if !host.is_known(sort, number) => Err(HostFault::UnknownVariable(
+        Some((sort, number)) if !host.is_known(sort, number) => Err(GoalFault::UnknownVariable(
             sort, number,
         )),
         _ => Ok(()),
@@ -52,192 +46,182 @@ fn sort_of(form: Form) -> ArgSort
     }
 }
 
-// Lists a new name under its number. Its kind is in universe 0; a type variable's sub root is the first listed number of
-// its sub class, a placeholder's number its own.
-fn enter(host: &PlainHost, names: &mut Names, term: Handle, form: Form) -> Result<u32, CallFault>
-    ensures answer { (result, names.new.list.items) ≡ answered names.old.list.items (entered host.now names.old.list.items term form) }
-    ensures faults { IfErr result FaultOfGoal }
-{
-    let Some(number) = names.next() else {
-        return Err(CallFault::TooManyNames(term));
-    };
-    let mut class = None;
-    let kind = match form {
-        Form::Ty(variable) => {
-            let root = host.root(variable)?;
-            class = Some(root);
-            Kind::Ty(0, names.first_of(root).unwrap_or(number))
-        }
-        Form::Int => Kind::Int,
-        Form::Float => Kind::Float,
-        Form::Const => Kind::Const(0),
-        Form::Placeholder(sort) => Kind::Placeholder(sort, 0, number),
-    };
-    names.add(Name {
-        original: term,
-        kind,
-        class,
-    });
-    Ok(number)
-}
-
-// The number of a name: the one that it has, or the next.
-fn number_of(
-    host: &PlainHost,
-    names: &mut Names,
-    term: Handle,
-    form: Form,
-) -> Result<u32, CallFault>
-    ensures answer { (result, names.new.list.items) ≡ answered names.old.list.items (numbered host.now names.old.list.items term form) }
-    ensures faults { IfErr result FaultOfGoal }
-{
-    match names.find(term) {
-        Some(number) => Ok(number),
-        None => enter(host, names, term, form),
-    }
-}
-
-// A leaf, rewritten. It refuses 4, then 13, then 15, then 2.
-fn rewrite_leaf(
-    store: &mut Store,
-    host: &PlainHost,
-    names: &mut Names,
-    part: Part,
-    term: Handle,
-    leaf: Leaf,
-) -> Result<Handle, CallFault>
-    ensures { IfErr result FaultOfGoal }
-{
-    let Some(form) = form_in_goal(part, leaf) else {
-        return Ok(term);
-    };
-    check_known(host, leaf)?;
-    if let Form::Ty(_) = form {
-        if part == Part::Environment {
-            return Err(CallFault::TypeVariableInEnvironment(term));
-        }
-    }
-    let number = number_of(host, names, term, form)?;
-    Ok(store.add_leaf(Leaf::Canonical(sort_of(form), number))?)
-}
-
 // A leaf of these flags may be a name: variables, placeholders, parameters, free and erased regions.
-const NAMES: u16 = Flags::TY_VARIABLE.bits
-    | Flags::INT_VARIABLE.bits
-    | Flags::FLOAT_VARIABLE.bits
-    | Flags::CONST_VARIABLE.bits
-    | Flags::REGION_VARIABLE.bits
-    | Flags::PLACEHOLDER.bits
-    | Flags::PARAMETER.bits
-    | Flags::FREE_REGION.bits
-    | Flags::ERASED.bits;
+const NAMES: Flags = Flags {
+    bits: Flags::TY_VARIABLE.bits
+        | Flags::INT_VARIABLE.bits
+        | Flags::FLOAT_VARIABLE.bits
+        | Flags::CONST_VARIABLE.bits
+        | Flags::REGION_VARIABLE.bits
+        | Flags::PLACEHOLDER.bits
+        | Flags::PARAMETER.bits
+        | Flags::FREE_REGION.bits
+        | Flags::ERASED.bits,
+};
 
 // Turns of one walk: each stored term is opened at most once, and each of its parts is visited once.
 const MOST_TURNS: u32 = 16_842_496;
 
-// Whether a term can be left as it is, with no look at its parts. An environment in the value is met even where nothing in
-// it is a name, and only goals and their lists hold one.
-fn is_settled(store: &Store, term: Handle, head: Head) -> Result<bool, StoreFault> {
-    match head {
-        Head::Goal | Head::List(ListSort::Goals) => Ok(false),
-        _ => Ok(store.facts(term)?.flags.bits & NAMES == 0),
-    }
+// The walks over the parts of one goal, and the part that is walked.
+#[derive(Drop)]
+struct Canonicalizer<'a, 's> {
+    store: &'a mut Store<'s>,
+    host: &'a PlainHost,
+    tables: &'a mut Scratch,
+    part: Part,
 }
 
-// Begins a term: it is rewritten at once, or opened.
-fn visit(
-    store: &mut Store,
-    host: &PlainHost,
-    scratch: &mut Scratch,
-    part: Part,
-    term: Handle,
-) -> Result<(), CallFault>
-    ensures { IfErr result FaultOfGoal }
-{
-    if let Some(result) = scratch.cache.get(term) {
-        return Ok(put_reserved(&mut scratch.waiting, result)?);
-    }
-    match store.get(term)? {
-        Node::Leaf(leaf) => {
-            let result = rewrite_leaf(store, host, &mut scratch.names, part, term, leaf)?;
-            scratch.cache.put(term, result);
-            Ok(put_reserved(&mut scratch.waiting, result)?)
+impl Canonicalizer<'_, '_> {
+    // A leaf, rewritten. It refuses 4, then 13, then 15, then 2.
+    fn rewrite_leaf(&mut self, term: Handle, leaf: Leaf) -> Result<Handle, GoalFault> {
+        let Some(form) = form_in_goal(self.part, leaf) else {
+            return Ok(term);
+        };
+        check_known(self.host, leaf)?;
+        if self.part == Part::Environment && matches!(form, Form::Ty(_)) {
+            return Err(GoalFault::TypeVariableInEnvironment(term));
         }
-        Node::Over(Head::List(ListSort::Environment), _) if part == Part::Value => Err(
-            CallFault::EnvironmentInValue(term),
-        ),
-        Node::Over(head, count) => {
-            if is_settled(store, term, head)? {
-                return Ok(put_reserved(&mut scratch.waiting, term)?);
+        let number = self.tables.names.number_of(self.host, term, form)?;
+        Ok(self.store.add_leaf(Leaf::Canonical(sort_of(form), number))?)
+    }
+
+    // Whether a term can be left as it is, with no look at its parts. An environment in the value is met even where nothing
+    // in it is a name, and only goals and their lists hold one.
+    fn is_settled(&self, term: Handle, head: Head) -> Result<bool, StoreFault> {
+        match head {
+            Head::Goal | Head::List(ListSort::Goals) => Ok(false),
+            _ => Ok(!self.store.facts(term)?.flags.meets(NAMES)),
+        }
+    }
+
+    // A term that is rewritten waits for the end of the one that it is a part of.
+    fn put_waiting(&mut self, term: Handle) -> Result<(), StoreFault> {
+        put_reserved(&mut self.tables.waiting, term)
+    }
+
+    // Begins a term: it is rewritten at once, or opened.
+    fn visit(&mut self, term: Handle) -> Result<(), GoalFault> {
+        if let Some(result) = self.tables.cache.get(term) {
+            return Ok(self.put_waiting(result)?);
+        }
+        match self.store.get(term)? {
+            Node::Leaf(leaf) => {
+                let result = self.rewrite_leaf(term, leaf)?;
+                self.tables.cache.put(term, result);
+                Ok(self.put_waiting(result)?)
             }
-            let base = scratch.waiting.len();
-            Ok(put_reserved(
-                &mut scratch.open,
-                Open {
+            Node::Over(Head::List(ListSort::Environment), _) if self.part == Part::Value => Err(
+                GoalFault::EnvironmentInValue(term),
+            ),
+            Node::Over(head, count) => {
+                if self.is_settled(term, head)? {
+                    return Ok(self.put_waiting(term)?);
+                }
+                let base = self.tables.waiting.len();
+                let open = Open {
                     term,
                     head,
-                    count,
-                    next: 0,
+                    places: 0..count,
                     base,
-                },
-            )?)
+                };
+                Ok(put_reserved(&mut self.tables.open, open)?)
+            }
         }
     }
-}
 
-// Ends an open term: it is added over its rewritten parts.
-fn finish(store: &mut Store, scratch: &mut Scratch, open: Open) -> Result<(), StoreFault> {
-    let result = match scratch.waiting.as_slice().get(open.base..) {
-        Some(parts) => store.add(open.head, parts)?,
-        None => return Err(StoreFault::NoSuch(open.term)),
-    };
-    scratch.waiting.truncate(open.base);
-    scratch.cache.put(open.term, result);
-    put_reserved(&mut scratch.waiting, result)
-}
-
-// One turn of a walk: the innermost open term goes on to its next part, or ends. True where nothing is open.
-fn turn(
-    store: &mut Store,
-    host: &PlainHost,
-    scratch: &mut Scratch,
-    part: Part,
-) -> Result<bool, CallFault>
-    ensures { IfErr result FaultOfGoal }
-{
-    let Some(mut open) = scratch.open.pop() else {
-        return Ok(true);
-    };
-    if open.next < open.count {
-        let child = store.part(open.term, open.next)?;
-        open.next += 1;
-        put_reserved(&mut scratch.open, open)?;
-        visit(store, host, scratch, part, child)?;
-    } else {
-        finish(store, scratch, open)?;
+    // Ends an open term: it is added over its rewritten parts.
+    fn finish(&mut self, open: Open) -> Result<(), StoreFault> {
+        let result = match self.tables.waiting.as_slice().get(open.base..) {
+            Some(parts) => self.store.add(open.head, parts)?,
+            None => return Err(StoreFault::NoSuch(open.term)),
+        };
+        self.tables.waiting.truncate(open.base);
+        self.tables.cache.put(open.term, result);
+        self.put_waiting(result)
     }
-    Ok(false)
-}
 
-// Rewrites one part of a goal.
-fn rewrite(
-    store: &mut Store,
-    host: &PlainHost,
-    scratch: &mut Scratch,
-    part: Part,
-    root: Handle,
-) -> Result<Handle, CallFault>
-    ensures { IfErr result FaultOfGoal }
-{
-    scratch.open.clear();
-    scratch.waiting.clear();
-    visit(store, host, scratch, part, root)?;
-    for _ in 0..MOST_TURNS {
-        if turn(store, host, scratch, part)? {
-            return Ok(scratch.waiting.pop().ok_or(StoreFault::NoSuch(root))?);
+    // One turn of a walk: the innermost open term goes on to its next part, or ends.
+    fn turn(&mut self, mut open: Open) -> Result<(), GoalFault> {
+        let Some(place) = open.places.next() else {
+            return Ok(self.finish(open)?);
+        };
+        let part = self.store.part(open.term, place)?;
+        put_reserved(&mut self.tables.open, open)?;
+        self.visit(part)
+    }
+
+    // Rewrites one part of a goal.
+    fn rewrite(&mut self, part: Part, root: Handle) -> Result<Handle, GoalFault> {
+        self.part = part;
+        self.tables.open.clear();
+        self.tables.waiting.clear();
+        self.visit(root)?;
+        for _ in 0..MOST_TURNS {
+            let Some(open) = self.tables.open.pop() else {
+                return Ok(self.tables.waiting.pop().ok_or(StoreFault::NoSuch(root))?);
+            };
+            self.turn(open)?;
         }
+        Err(GoalFault::Store(StoreFault::TooHigh))
     }
-    Err(CallFault::Host(HostFault::Store(StoreFault::TooHigh)))
+
+    // Rewrites the environment, the value and the opaque pairs. Static stays in the environment alone, so that its results
+    // do not serve the other two.
+    fn rewrite_goal(&mut self, goal: Goal) -> Result<Goal, GoalFault>
+        ensures { IfOk result (λ g. g.mode ≡ goal.mode) }
+    {
+        self.tables.names.clear();
+        self.tables.cache.forget();
+        let env = self.rewrite(Part::Environment, goal.env)?;
+        self.tables.cache.forget();
+        let value = self.rewrite(Part::Value, goal.value)?;
+        let opaques = self.rewrite(Part::Opaques, goal.opaques)?;
+        Ok(Goal {
+            env,
+            value,
+            opaques,
+            mode: goal.mode,
+        })
+    }
+
+    // Adds a list that has for each name, in order, what is made of it.
+    fn add_list<F: Fn(&mut Store, Name) -> Result<Handle, StoreFault>>(
+        &mut self,
+        sort: ListSort,
+        element: F,
+    ) -> Result<Handle, StoreFault>
+        requires { F.IsAlwaysCallable element }
+    {
+        let Scratch { names, waiting, .. } = &mut *self.tables;
+        waiting.clear();
+        for name in names.as_slice() {
+            let x = element(self.store, *name)?;
+            put_reserved(waiting, x)?;
+        }
+        self.store.add(Head::List(sort), waiting.as_slice())
+    }
+
+    fn canonicalize(&mut self, goal: Goal) -> Result<(Question, CanonicalGoal), GoalFault>
+        ensures { IfOk result (λ a. (a.1.max_universe ≡ 0) × (a.1.goal.mode ≡ goal.mode)) }
+    {
+        check_handles(self.store, goal)?;
+        for part in Part::ALL {
+            check_no_canonical(self.store, goal.term(part))?;
+        }
+        let rewritten = self.rewrite_goal(goal)?;
+        let kinds = self.add_list(ListSort::Kinds, |store, name| {
+            store.add_leaf(Leaf::Kind(name.kind))
+        })?;
+        let originals = self.add_list(ListSort::Arguments, |_, name| Ok(name.original))?;
+        Ok((
+            Question { originals },
+            CanonicalGoal {
+                max_universe: 0,
+                kinds,
+                goal: rewritten,
+            },
+        ))
+    }
 }
 
 // Refuses 1 for a handle that names nothing or another sort than its place in a goal takes.
@@ -253,89 +237,11 @@ fn check_handles(store: &Store, goal: Goal) -> Result<(), StoreFault> {
 }
 
 // Refuses 11 where a canonical variable occurs.
-fn check_no_canonical(store: &Store, term: Handle) -> Result<(), CallFault>
-    ensures { IfErr result FaultOfGoal }
-{
-    if store.facts(term)?.flags.bits & Flags::CANONICAL.bits != 0 {
-        return Err(CallFault::CanonicalPresent(term));
+fn check_no_canonical(store: &Store, term: Handle) -> Result<(), GoalFault> {
+    if store.facts(term)?.flags.meets(Flags::CANONICAL) {
+        return Err(GoalFault::CanonicalPresent(term));
     }
     Ok(())
-}
-
-// Adds the kinds of the names in order, then their list.
-fn add_kinds(store: &mut Store, scratch: &mut Scratch) -> Result<Handle, StoreFault> {
-    scratch.waiting.clear();
-    for number in 0..MOST_NAMES {
-        let Some(name) = scratch.names.get(number) else {
-            break;
-        };
-        let kind = store.add_leaf(Leaf::Kind(name.kind))?;
-        put_reserved(&mut scratch.waiting, kind)?;
-    }
-    store.add(Head::List(ListSort::Kinds), scratch.waiting.as_slice())
-}
-
-// Adds the list of the original values.
-fn add_originals(store: &mut Store, scratch: &mut Scratch) -> Result<Handle, StoreFault> {
-    scratch.waiting.clear();
-    for number in 0..MOST_NAMES {
-        let Some(name) = scratch.names.get(number) else {
-            break;
-        };
-        put_reserved(&mut scratch.waiting, name.original)?;
-    }
-    store.add(Head::List(ListSort::Arguments), scratch.waiting.as_slice())
-}
-
-// Rewrites the environment, the value and the opaque pairs. Static stays in the environment alone, so that its results do
-// not serve the other two.
-fn rewrite_goal(
-    store: &mut Store,
-    host: &PlainHost,
-    scratch: &mut Scratch,
-    goal: Goal,
-) -> Result<Goal, CallFault>
-    ensures kept { IfOk result (λ g. g.mode ≡ goal.mode) }
-    ensures faults { IfErr result FaultOfGoal }
-{
-    scratch.names.clear();
-    scratch.cache.forget();
-    let env = rewrite(store, host, scratch, Part::Environment, goal.env)?;
-    scratch.cache.forget();
-    let value = rewrite(store, host, scratch, Part::Value, goal.value)?;
-    let opaques = rewrite(store, host, scratch, Part::Opaques, goal.opaques)?;
-    Ok(Goal {
-        env,
-        value,
-        opaques,
-        mode: goal.mode,
-    })
-}
-
-fn canonicalize(
-    store: &mut Store,
-    host: &PlainHost,
-    scratch: &mut Scratch,
-    goal: Goal,
-) -> Result<(Question, CanonicalGoal), CallFault>
-    ensures kept { IfOk result (λ a. (a.1.max_universe ≡ 0) × (a.1.goal.mode ≡ goal.mode)) }
-    ensures faults { IfErr result FaultOfGoal }
-{
-    check_handles(store, goal)?;
-    check_no_canonical(store, goal.env)?;
-    check_no_canonical(store, goal.value)?;
-    check_no_canonical(store, goal.opaques)?;
-    let rewritten = rewrite_goal(store, host, scratch, goal)?;
-    let kinds = add_kinds(store, scratch)?;
-    let originals = add_originals(store, scratch)?;
-    Ok((
-        Question { originals },
-        CanonicalGoal {
-            max_universe: 0,
-            kinds,
-            goal: rewritten,
-        },
-    ))
 }
 
 // Canonicalizes a goal at the host's present moment: the question, which keeps the original values, and the canonical goal.
@@ -350,9 +256,15 @@ pub fn canonicalize_goal(
     ensures numbers { IfErr result (λ e. of_goal (call_number e) ≡ true) }
 {
     let len = store.len();
-    let answer = canonicalize(store, host, scratch, goal);
+    let mut canonicalizer = Canonicalizer {
+        store: &mut *store,
+        host,
+        tables: &mut *scratch,
+        part: Part::Environment,
+    };
+    let answer = canonicalizer.canonicalize(goal);
     if answer.is_err() {
         store.cut(len);
     }
-    answer
+    Ok(answer?)
 }

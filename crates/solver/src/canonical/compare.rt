@@ -1,8 +1,12 @@
 // Where two canonical goals first differ.
-ghost use Rattle.std.specs.Prelude.{IfOk};
-ghost use Rattle.solver.specs.Differences.{Differ, Apart, OfKinds, Tells};
+ghost use Rattle.std.specs.Prelude.{◌≡◌, ◌≢◌, ◌<◌, not, ◌==◌, find, IfOk, IfSome};
+ghost use Rattle.terms.specs.Means.{trees};
+ghost use Rattle.solver.specs.Sizes.{size_at};
+ghost use Rattle.solver.specs.Parts.{term_in};
+ghost use Rattle.solver.specs.Differences.{OfKinds, Tells, difference_in};
 
-use crate::canonical::CanonicalGoal;
+use crate::canonical::forms::Part;
+use crate::canonical::{CanonicalGoal, Goal};
 use terms::Store;
 use theory::{Handle, Head, LONGEST, ListSort, Node, StoreFault};
 
@@ -19,8 +23,18 @@ pub enum Difference {
     Opaques(Handle, Handle),
 }
 
-// Steps from a term of the greatest height to a leaf: every second one is a list.
-const MOST_STEPS: u32 = 128;
+impl Difference {
+    // The difference of two terms that stand in this part.
+    fn in_part(part: Part, x: Handle, y: Handle) -> Difference
+        ensures { result ≡ difference_in part x y }
+    {
+        match part {
+            Part::Environment => Difference::Env(x, y),
+            Part::Value => Difference::Value(x, y),
+            Part::Opaques => Difference::Opaques(x, y),
+        }
+    }
+}
 
 // The first two parts that differ, of two terms with one head and as many parts.
 fn differing_parts(
@@ -28,7 +42,8 @@ fn differing_parts(
     a: Handle,
     b: Handle,
 ) -> Result<Option<(Handle, Handle)>, StoreFault>
-    ensures { IfOk result Apart }
+    ensures apart { IfOk result (λ found. IfSome found (λ p. p.0 ≢ p.1)) }
+    ensures smaller { IfOk result (λ found. IfSome found (λ p. size_at (trees store.now) p.0 < size_at (trees store.now) a)) }
 {
     let count = match (store.get(a)?, store.get(b)?) {
         (Node::Over(head, count), Node::Over(other, others)) if head == other && count == others =>
@@ -47,19 +62,13 @@ fn differing_parts(
 
 // Of two terms that differ, the two smallest subterms that do, the first in walk order.
 fn smallest(store: &Store, a: Handle, b: Handle) -> Result<(Handle, Handle), StoreFault>
-    requires { Differ a b }
-    ensures { IfOk result (λ p. Differ p.0 p.1) }
+    requires { a ≢ b }
+    ensures { IfOk result (λ p. p.0 ≢ p.1) }
 {
-    let mut x = a;
-    let mut y = b;
-    for _ in 0..MOST_STEPS {
-        match differing_parts(store, x, y)? {
-            Some((p, q)) => {
-                x = p;
-                y = q;
-            }
-            None => break,
-        }
+    let (mut x, mut y) = (a, b);
+    while let Some((p, q)) = differing_parts(store, x, y)? {
+        x = p;
+        y = q;
     }
     Ok((x, y))
 }
@@ -91,6 +100,16 @@ fn compare_kinds(store: &Store, a: Handle, b: Handle) -> Result<Difference, Stor
     Ok(Difference::NameCount(count, other))
 }
 
+// The first of the parts in which two goals have different terms.
+fn differing_part(parts: &[Part], a: Goal, b: Goal) -> Option<Part>
+    ensures { result ≡ find (λ p. not (term_in p a == term_in p b)) parts.now }
+{
+    parts
+        .iter()
+        .copied()
+        .find(|part| a.term(*part) != b.term(*part))
+}
+
 // Where two canonical goals differ, or none where they are equal: first the typing modes, then the kinds, then environment,
 // value and opaque pairs. The largest universe of each is 0. Of equal ones, name k of one is paired with name k of the other.
 pub fn compare(
@@ -106,17 +125,9 @@ pub fn compare(
     if a.kinds != b.kinds {
         return Ok(Some(compare_kinds(store, a.kinds, b.kinds)?));
     }
-    if a.goal.env != b.goal.env {
-        let (x, y) = smallest(store, a.goal.env, b.goal.env)?;
-        return Ok(Some(Difference::Env(x, y)));
-    }
-    if a.goal.value != b.goal.value {
-        let (x, y) = smallest(store, a.goal.value, b.goal.value)?;
-        return Ok(Some(Difference::Value(x, y)));
-    }
-    if a.goal.opaques != b.goal.opaques {
-        let (x, y) = smallest(store, a.goal.opaques, b.goal.opaques)?;
-        return Ok(Some(Difference::Opaques(x, y)));
-    }
-    Ok(None)
+    let Some(part) = differing_part(&Part::ALL, a.goal, b.goal) else {
+        return Ok(None);
+    };
+    let (x, y) = smallest(store, a.goal.term(part), b.goal.term(part))?;
+    Ok(Some(Difference::in_part(part, x, y)))
 }

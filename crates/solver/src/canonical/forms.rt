@@ -12,6 +12,11 @@ pub enum Part {
     Opaques,
 }
 
+impl Part {
+    // In the order in which they are walked and compared.
+    pub const ALL: [Part; 3] = [Part::Environment, Part::Value, Part::Opaques];
+}
+
 // The form of the kind that a name gets; a type variable's sub root is found by its number.
 #[derive(Clone, Copy)]
 pub enum Form {

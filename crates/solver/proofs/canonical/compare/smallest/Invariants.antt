@@ -1,6 +1,11 @@
--- The two terms in hand differ.
-use Rattle.solver.specs.Differences.{Differ}
+-- The two terms in hand differ, and the first gets smaller.
+use Rattle.std.proofs.Common.{◌≢◌}
+use Rattle.terms.specs.Means.{trees}
+use Rattle.solver.specs.Sizes.{size_at}
 use Rattle.solver.proofs.canonical.compare.smallest.Given as goal
 
-abbrev pub invariant-loop : goal.invariant-loop
-invariant-loop l = Differ l.x l.y
+abbrev pub invariant-loop-p : goal.invariant-loop-p
+invariant-loop-p l = l.x ≢ l.y
+
+abbrev pub decreases-loop-p : goal.decreases-loop-p
+decreases-loop-p l = size_at (trees l.store) l.x

@@ -1,0 +1,60 @@
+-- A part of a term is smaller than the term.
+use Rattle.std.proofs.Common.{◌≡◌, ℕ, zero, suc, ◌+◌, ◌*◌, ◌<◌, ◌≤◌, Bool, true, false, cond, List, [], ◌∷◌, get_or, Ok, Result, refl, ap, arith}
+use Rattle.std.proofs.Math.Option.{Option, none, some}
+use Rattle.theory.specs.declared.words.Head.TheVariants.{List as AList}
+use Rattle.theory.specs.declared.words.ListSort.TheVariants.{Arguments}
+use Rattle.theory.specs.declared.words.StoreFault.{StoreFault}
+use Rattle.theory.specs.declared.words.StoreFault.TheVariants.{NoSuch, BadPart}
+use Rattle.theory.specs.Outcomes.{◌>>=◌, at, given, test}
+use Rattle.theory.specs.Trees.{Tree, leaf, node, nil, cons, tree?, items, applies, parts}
+use Rattle.theory.specs.Store.{handle, part}
+use Rattle.solver.specs.Sizes.{size, size_at}
+
+item_smaller : (ts : Tree) (k : ℕ) (u : Tree) → at (items ts) k ≡ some u → size u < size ts
+item_smaller (leaf x) k u e = cc
+item_smaller (node h ts) k u e = cc
+item_smaller nil k u e = cc
+item_smaller (cons t ts) zero u e = let own : t ≡ u = cc in omega (arith, ap size own)
+item_smaller (cons t ts) (suc k) u e = omega (arith, item_smaller ts k u e)
+
+part_in : (t : Tree) (k : ℕ) (u : Tree) → at (parts t) k ≡ some u → size u < size t
+part_in (leaf x) k u e = cc
+part_in (node h ts) k u e = by (applies h) k e
+  where
+    by : (b : Bool) (k : ℕ) → at (cond b (node (AList Arguments) ts ∷ []) (items ts)) k ≡ some u → size u < 2 * size ts + cond b 2 1
+    by true zero e = let own : node (AList Arguments) ts ≡ u = cc in omega (arith, ap size own)
+    by true (suc k) e = cc
+    by false k e = omega (arith, item_smaller ts k u e)
+part_in nil k u e = cc
+part_in (cons t ts) k u e = cc
+
+-- the tree at the handle of a tree is that tree, or none
+at_handle : (m : List Tree) (u : Tree) → size_at m (handle m u) ≤ size u
+at_handle [] u = omega arith
+at_handle (t ∷ m) u = by (tree? t u) (at_handle m u)
+  where
+    by : (d : Dec (t ≡ u)) → size_at m (handle m u) ≤ size u → size_at (t ∷ m) (cond (test d) 0 (suc (handle m u))) ≤ size u
+    by (yes e) le = omega (arith, ap size e)
+    by (no n) le = le
+
+found_at : (m : List Tree) (n : ℕ) (t : Tree) → at m n ≡ some t → get_or m n nil ≡ t
+found_at [] n t e = cc
+found_at (u ∷ m) zero t e = cc
+found_at (u ∷ m) (suc n) t e = found_at m n t e
+
+pub part_smaller : (m : List Tree) (n k p : ℕ) → Ok p ≡ part m n k → size_at m p < size_at m n
+unfolding part
+part_smaller m n k p e = by (at m n) refl e
+  where
+    read : Tree → Result ℕ StoreFault
+    read t = given (at (parts t) k) (BadPart k) >>= λ u. Ok (handle m u)
+
+    inner : (t : Tree) (o : Option Tree) → at m n ≡ some t → at (parts t) k ≡ o → Ok p ≡ (given o (BadPart k) >>= λ u. Ok (handle m u)) → size_at m p < size_at m n
+    inner t none a b e = cc
+    inner t (some u) a b e =
+        let own : p ≡ handle m u = cc in
+        omega (arith, ap (size_at m) own, at_handle m u, part_in t k u b, ap size (found_at m n t a))
+
+    by : (o : Option Tree) → at m n ≡ o → Ok p ≡ (given o (NoSuch n) >>= λ t. given (at (parts t) k) (BadPart k) >>= λ u. Ok (handle m u)) → size_at m p < size_at m n
+    by none a e = cc
+    by (some t) a e = inner t (at (parts t) k) a refl e
