@@ -261,7 +261,7 @@ impl Form {
 }
 
 impl Open {
-    pub fn places(self) -> Places {
+    pub(crate) fn places(self) -> Places {
         match self {
             Open::Line(verb) => verb.places(),
             Open::Form(form) => form.places(),

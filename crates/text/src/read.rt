@@ -1,4 +1,5 @@
-// The reader: takes a line in one pass, with the open forms on a stack of its own, and adds its terms to the store.
+// The reader: takes a line in one pass and adds its terms to the store. The open forms stand on a stack of its own, since a
+// line may nest as deep as it is long.
 use crate::build::{Numbers, build};
 use crate::form::{Form, Open, Place, Verb};
 use crate::letter::Letter;
@@ -156,10 +157,10 @@ fn field_of(word: &[u8], place: Place, asked: usize) -> Result<Field, Reason> {
 
 // A line that is being read into a store.
 #[derive(Drop)]
-struct Line<'s, 'm, 'r> {
-    store: &'s mut Store<'m>,
-    outer: &'r mut Vec<Frame>,
-    parts: &'r mut Vec<Handle>,
+struct Line<'a, 'm> {
+    store: &'a mut Store<'m>,
+    outer: &'a mut Vec<Frame>,
+    parts: &'a mut Vec<Handle>,
     // how many questions there are
     asked: usize,
     top: Frame,
@@ -167,7 +168,7 @@ struct Line<'s, 'm, 'r> {
     accepted: Result<(), StoreFault>,
 }
 
-impl Line<'_, '_, '_> {
+impl Line<'_, '_> {
     // Opens a form, if it may stand where it does.
     fn open(&mut self, span: Span, head: Option<Token<'_>>) -> Result<(), Trouble> {
         let head = located(span, head.ok_or(Reason::NoClose))?;

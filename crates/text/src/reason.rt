@@ -32,7 +32,7 @@ pub enum Reason {
 
 impl Reason {
     // Why a word does not fill a place: a number that is too large, or else that the place wants something else.
-    pub fn of(fault: WordFault, place: Place) -> Reason {
+    pub(crate) fn of(fault: WordFault, place: Place) -> Reason {
         match fault {
             WordFault::TooLarge(limit) => Reason::TooLarge(limit),
             WordFault::Unknown => Reason::Wanted(place),

@@ -54,7 +54,7 @@ impl From<StoreFault> for Trouble {
     ghost from_gives = { λ e r. (r ≡ refused_by (in_host (in_store e))) × (refusal r ≡ Some (store_number e)) };
 
     fn from(fault: StoreFault) -> Trouble {
-        Trouble::Refused(CallFault::from(fault))
+        Trouble::from(HostFault::Store(fault))
     }
 }
 
