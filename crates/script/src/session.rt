@@ -1,14 +1,14 @@
 // A session: a context with the memory that its lines are read and answered with.
 ghost use Rattle.std.specs.Prelude.{◌≡◌, ◌++◌, IfOk, string_bytes, codes, decimal};
+ghost use Rattle.solver.specs.Numbers.{call_number};
 
 use crate::compare;
-use crate::context::Context;
-use solver::{CanonicalGoal, Goal, Scratch};
+use crate::context::{Asked, Context};
+use solver::{CallFault, CanonicalGoal, Goal, Scratch};
 use std::alloc::{AllocError, Global};
-use std::fmt::Write;
 use terms::Store;
-use text::{Command, Complaint, Printer, Reader, Trouble};
-use theory::{Universe, VariableSort};
+use text::{BadLine, Command, Letter, Printer, Reader, Trouble};
+use theory::{Handle, StoreFault, Universe, VariableSort};
 
 // The store stands beside the session, since its memory is the caller's.
 #[derive(Drop)]
@@ -17,7 +17,6 @@ pub struct Session {
     context: Context,
     scratch: Scratch,
     reader: Reader,
-    printer: Printer,
 }
 
 impl Session {
@@ -28,7 +27,6 @@ impl Session {
             context: Context::new(heap, places)?,
             scratch: Scratch::new(heap)?,
             reader: Reader::new(heap),
-            printer: Printer::new(heap),
         })
     }
 
@@ -41,149 +39,138 @@ impl Session {
         text: &[u8],
     ) -> Result<Option<String>, AllocError> {
         let held = store.len();
-        let mut out = String::new(self.heap);
-        match self.run(store, &mut out, text) {
-            Ok(true) => Ok(Some(out)),
-            Ok(false) => Ok(None),
+        match self.run(store, text) {
+            Ok(answer) => Ok(answer),
             Err(trouble) => {
                 store.cut(held);
-                Ok(Some(excuse(self.heap, line, text, trouble)?))
+                excuse(self.heap, line, text, trouble).map(Some)
             }
         }
     }
 
-    // Runs a line and writes its answer; false where there is no command.
-    fn run(
-        &mut self,
-        store: &mut Store<'_>,
-        out: &mut String,
-        text: &[u8],
-    ) -> Result<bool, Trouble> {
+    // Runs a line; no answer where there is no command.
+    fn run(&mut self, store: &mut Store<'_>, text: &[u8]) -> Result<Option<String>, Trouble> {
         let asked = self.context.asked_count();
-        let Some(command) = self.reader.read(store, text, asked)? else {
-            return Ok(false);
-        };
+        match self.reader.read(store, text, asked)? {
+            Some(command) => self.perform(store, command).map(Some),
+            None => Ok(None),
+        }
+    }
+
+    // Runs a command; its answer.
+    fn perform(&mut self, store: &mut Store<'_>, command: Command) -> Result<String, Trouble> {
         match command {
             Command::New => {
                 self.context.clear(store);
-                out.write_str("ok")?
+                Ok(String::from_str(self.heap, "ok")?)
             }
-            Command::Term(value) => self.printer.value(store, out, value)?,
-            Command::Var(sort, universe) => self.make(store, out, sort, universe)?,
-            Command::Universe => self.open_universe(out)?,
-            Command::Join(a, b) => self.join(out, a, b)?,
-            Command::Goal(goal) => self.goal(store, out, goal)?,
-            Command::Compare(first, second) => self.compare(store, out, first, second)?,
+            Command::Term(value) => self.show(store, value),
+            Command::Var(sort, universe) => self.make(store, sort, universe),
+            Command::Universe => self.open_universe(),
+            Command::Join(a, b) => self.join(a, b),
+            Command::Goal(goal) => self.goal(store, goal),
+            Command::Compare(first, second) => self.compare(store, first, second),
         }
-        Ok(true)
     }
 
-    fn open_universe(&mut self, out: &mut String) -> Result<(), Trouble> {
+    fn page<'s, 'm>(&self, store: &'s Store<'m>) -> Printer<'s, 'm> {
+        Printer {
+            store,
+            out: String::new(self.heap),
+        }
+    }
+
+    fn show(&self, store: &Store<'_>, value: Handle) -> Result<String, Trouble> {
+        let mut page = self.page(store);
+        page.value(value)?;
+        Ok(page.out)
+    }
+
+    fn open_universe(&mut self) -> Result<String, Trouble> {
         let universe = self.context.open_universe()?;
-        write!(out, "{universe} ; (U)")?;
-        Ok(())
+        Ok(format!(in self.heap; "{universe} ; (U)")?)
     }
 
     fn make(
         &mut self,
         store: &mut Store<'_>,
-        out: &mut String,
         sort: VariableSort,
         universe: Universe,
-    ) -> Result<(), Trouble> {
+    ) -> Result<String, Trouble> {
         let number = self.context.make(store, sort, universe)?;
-        let letter = text::sort_letter(sort);
-        write!(out, "?{letter}{number} ; (V {letter} {universe})")?;
-        Ok(())
+        let letter = Letter(sort);
+        Ok(format!(in self.heap; "?{letter}{number} ; (V {letter} {universe})")?)
     }
 
-    fn join(&mut self, out: &mut String, a: u32, b: u32) -> Result<(), Trouble> {
-        out.write_str("ok")?;
-        if self.context.join(a, b)? {
-            write!(out, " ; (J ?t{a} ?t{b})")?;
-        }
-        Ok(())
+    fn join(&mut self, a: u32, b: u32) -> Result<String, Trouble> {
+        Ok(if self.context.join(a, b)? {
+            format!(in self.heap; "ok ; (J ?t{a} ?t{b})")?
+        } else {
+            String::from_str(self.heap, "ok")?
+        })
     }
 
-    fn goal(&mut self, store: &mut Store<'_>, out: &mut String, goal: Goal) -> Result<(), Trouble> {
+    fn goal(&mut self, store: &mut Store<'_>, goal: Goal) -> Result<String, Trouble> {
         let asked = self.context.canonicalize(store, &mut self.scratch, goal)?;
-        let number = self.context.asked_count();
-        write!(out, "q{number} ")?;
-        self.printer.values(store, out, asked.originals())?;
-        self.write_goal(store, out, asked.goal())?;
+        let answer = self.show_asked(store, &asked)?;
         self.context.keep(asked)?;
-        Ok(())
+        Ok(answer)
     }
 
-    fn write_goal(
-        &mut self,
-        store: &Store<'_>,
-        out: &mut String,
-        canonical: CanonicalGoal,
-    ) -> Result<(), Trouble> {
-        let universe = canonical.max_universe;
-        let goal = canonical.goal;
-        write!(out, " (goal {universe}")?;
-        for value in [canonical.kinds, goal.env, goal.value, goal.opaques] {
-            out.write_str(" ")?;
-            self.printer.value(store, out, value)?;
-        }
-        let mode = goal.mode;
-        write!(out, " (mode {mode}))")?;
-        Ok(())
+    // A question that is still to be kept, with its number.
+    fn show_asked(&self, store: &Store<'_>, asked: &Asked) -> Result<String, Trouble> {
+        let mut page = self.page(store);
+        write!(page.out, "q{} ", self.context.asked_count())?;
+        page.values(asked.originals())?;
+        write_goal(&mut page, asked.goal())?;
+        Ok(page.out)
     }
 
-    fn compare(
-        &mut self,
-        store: &Store<'_>,
-        out: &mut String,
-        first: usize,
-        second: usize,
-    ) -> Result<(), Trouble> {
+    fn compare(&self, store: &Store<'_>, first: usize, second: usize) -> Result<String, Trouble> {
         // the reader lets only questions through that were asked
         let (Some(one), Some(two)) = (self.context.asked(first), self.context.asked(second)) else {
-            return Err(Trouble::Refused(1));
+            return Err(Trouble::from(StoreFault::BadPart(first)));
         };
+        let mut page = self.page(store);
         match solver::compare(store, one.goal(), two.goal())? {
-            None => {
-                let names = one.originals();
-                let partners = two.originals();
-                compare::write_pairing(store, &mut self.printer, out, names, partners)
-            }
-            Some(difference) => compare::write_difference(
-                store,
-                &mut self.printer,
-                out,
-                difference,
-            ),
+            None => compare::write_pairing(&mut page, one.originals(), two.originals())?,
+            Some(difference) => compare::write_difference(&mut page, difference)?,
         }
+        Ok(page.out)
     }
+}
+
+fn write_goal(page: &mut Printer<'_, '_>, canonical: CanonicalGoal) -> Result<(), Trouble> {
+    let universe = canonical.max_universe;
+    let goal = canonical.goal;
+    write!(page.out, " (goal {universe}")?;
+    for value in [canonical.kinds, goal.env, goal.value, goal.opaques] {
+        page.out.push_str(" ")?;
+        page.value(value)?;
+    }
+    write!(page.out, " (mode {}))", goal.mode)?;
+    Ok(())
 }
 
 // The answer to a line that has no result; want of memory is no answer.
 fn excuse(heap: Global, line: u64, text: &[u8], trouble: Trouble) -> Result<String, AllocError> {
     match trouble {
-        Trouble::Bad(complaint) => bad_line(heap, line, text, complaint),
-        Trouble::Refused(number) => refused_line(heap, number),
+        Trouble::Bad(complaint) => {
+            let bad = BadLine {
+                line,
+                text,
+                complaint,
+            };
+            format!(in heap; "{bad}")
+        }
+        Trouble::Refused(fault) => refused_line(heap, fault),
         Trouble::Memory => Err(AllocError),
     }
 }
 
-fn refused_line(heap: Global, number: u8) -> Result<String, AllocError>
-    ensures { IfOk result (λ s. string_bytes s ≡ codes "refused " ++ decimal number) }
+fn refused_line(heap: Global, fault: CallFault) -> Result<String, AllocError>
+    ensures { IfOk result (λ s. string_bytes s ≡ codes "refused " ++ decimal (call_number fault)) }
 {
+    let number = fault.number();
     format!(in heap; "refused {number}")
-}
-
-fn bad_line(
-    heap: Global,
-    line: u64,
-    text: &[u8],
-    complaint: Complaint,
-) -> Result<String, AllocError> {
-    let mut out = String::new(heap);
-    match text::write_complaint(&mut out, line, text, complaint) {
-        Ok(()) => Ok(out),
-        Err(_) => Err(AllocError),
-    }
 }

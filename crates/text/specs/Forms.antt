@@ -6,7 +6,7 @@ use Rattle.theory.specs.Trees.{leaf_sort, head_sort}
 use Rattle.text.specs.declared.form.Form.{Form}
 use Rattle.text.specs.declared.form.Form.TheVariants.{Constructor, Alias, Function, Unevaluated, Value, Parameter, LateParameter, Placeholder, Bound, Predicate, OpaquePair, Goal, List, TyKind, RegionKind, ConstKind, PlaceholderKind}
 use Rattle.text.specs.declared.build.Made.{Made}
-use Rattle.text.specs.declared.build.Made.TheVariants.{Leaf, Over, OverList}
+use Rattle.text.specs.declared.build.Made.TheVariants.{Leaf, Over}
 
 abbrev pub form_sort : Form → Sort
 form_sort Constructor = Argument ty
@@ -30,4 +30,3 @@ form_sort (PlaceholderKind a) = kind
 abbrev pub made_sort : Made → Sort
 made_sort (Leaf x) = leaf_sort x
 made_sort (Over h) = head_sort h
-made_sort (OverList h) = head_sort h

@@ -1,2 +1,5 @@
 pub mod Forms
+pub mod Letters
+pub mod Troubles
+pub mod Widths
 pub mod Words

@@ -1,17 +1,18 @@
 // What a form becomes in the store, once its numbers and parts are read.
-ghost use Rattle.std.specs.Prelude.{◌≡◌, ◌^◌, ◌<◌};
+ghost use Rattle.std.specs.Prelude.{◌≡◌};
 ghost use Rattle.text.specs.Forms.{form_sort, made_sort};
+ghost use Rattle.text.specs.Widths.{Fits};
 
 use crate::form::Form;
+use crate::width::fit;
 use terms::Store;
 use theory::{Handle, Head, Kind, Leaf, ListSort, StoreFault};
 
-// A leaf; a head over the parts; or a head over the list of the parts.
+// A leaf, or a head over the parts.
 #[derive(Clone, Copy)]
 enum Made {
     Leaf(Leaf),
     Over(Head),
-    OverList(Head),
 }
 
 // The last two numbers that a form or a line has read.
@@ -37,34 +38,22 @@ impl Numbers {
         }
     }
 
-    pub fn earlier(self) -> u32
-        ensures { self.earlier < 2 ^ 32 → result ≡ self.earlier }
+    // The number before the last, at the width of its place.
+    pub fn earlier<N: TryFrom<u64> + Default>(self) -> N
+    where
+        N::Error: Drop,
+        ensures { Fits N.TryFrom.try_from_gives self.earlier result }
     {
-        (self.earlier % 0x1_0000_0000) as u32
+        fit(self.earlier)
     }
 
-    pub fn earlier_universe(self) -> u16
-        ensures { self.earlier < 2 ^ 16 → result ≡ self.earlier }
+    // The last number, at the width of its place.
+    pub fn last<N: TryFrom<u64> + Default>(self) -> N
+    where
+        N::Error: Drop,
+        ensures { Fits N.TryFrom.try_from_gives self.last result }
     {
-        (self.earlier % 0x1_0000) as u16
-    }
-
-    pub fn last(self) -> u32
-        ensures { self.last < 2 ^ 32 → result ≡ self.last }
-    {
-        (self.last % 0x1_0000_0000) as u32
-    }
-
-    pub fn last_universe(self) -> u16
-        ensures { self.last < 2 ^ 16 → result ≡ self.last }
-    {
-        (self.last % 0x1_0000) as u16
-    }
-
-    pub fn last_tag(self) -> u8
-        ensures { self.last < 2 ^ 8 → result ≡ self.last }
-    {
-        (self.last % 0x100) as u8
+        fit(self.last)
     }
 }
 
@@ -74,29 +63,25 @@ fn made_of(form: Form, numbers: Numbers) -> Made
 {
     let number = numbers.last();
     match form {
-        Form::Constructor => Made::OverList(Head::Constructor(number)),
-        Form::Alias => Made::OverList(Head::Alias(number)),
-        Form::Function => Made::OverList(Head::Function(number)),
-        Form::Unevaluated => Made::OverList(Head::Unevaluated(number)),
-        Form::Predicate => Made::OverList(Head::Predicate(numbers.earlier(), number)),
-        Form::Value => Made::Over(Head::Value(numbers.last)),
+        Form::Constructor => Made::Over(Head::Constructor(number)),
+        Form::Alias => Made::Over(Head::Alias(number)),
+        Form::Function => Made::Over(Head::Function(number)),
+        Form::Unevaluated => Made::Over(Head::Unevaluated(number)),
+        Form::Predicate => Made::Over(Head::Predicate(numbers.earlier(), number)),
+        Form::Value => Made::Over(Head::Value(numbers.last())),
         Form::OpaquePair => Made::Over(Head::OpaquePair),
         Form::Goal => Made::Over(Head::Goal),
         Form::List(sort) => Made::Over(Head::List(sort)),
         Form::Parameter(sort) => Made::Leaf(Leaf::Parameter(sort, number)),
         Form::LateParameter => Made::Leaf(Leaf::LateParameter(number)),
-        Form::Placeholder(sort) => Made::Leaf(Leaf::Placeholder(
-            sort,
-            numbers.earlier_universe(),
-            number,
-        )),
+        Form::Placeholder(sort) => Made::Leaf(Leaf::Placeholder(sort, numbers.earlier(), number)),
         Form::Bound(sort) => Made::Leaf(Leaf::Bound(sort, numbers.earlier(), number)),
-        Form::TyKind => Made::Leaf(Leaf::Kind(Kind::Ty(numbers.earlier_universe(), number))),
-        Form::RegionKind => Made::Leaf(Leaf::Kind(Kind::Region(numbers.last_universe()))),
-        Form::ConstKind => Made::Leaf(Leaf::Kind(Kind::Const(numbers.last_universe()))),
+        Form::TyKind => Made::Leaf(Leaf::Kind(Kind::Ty(numbers.earlier(), number))),
+        Form::RegionKind => Made::Leaf(Leaf::Kind(Kind::Region(numbers.last()))),
+        Form::ConstKind => Made::Leaf(Leaf::Kind(Kind::Const(numbers.last()))),
         Form::PlaceholderKind(sort) => Made::Leaf(Leaf::Kind(Kind::Placeholder(
             sort,
-            numbers.earlier_universe(),
+            numbers.earlier(),
             number,
         ))),
     }
@@ -110,10 +95,10 @@ pub fn build(
 ) -> Result<Handle, StoreFault> {
     match made_of(form, numbers) {
         Made::Leaf(leaf) => store.add_leaf(leaf),
-        Made::Over(head) => store.add(head, parts),
-        Made::OverList(head) => {
+        Made::Over(head) if head.applies() => {
             let list = store.add(Head::List(ListSort::Arguments), parts)?;
             store.add(head, &[list])
         }
+        Made::Over(head) => store.add(head, parts),
     }
 }

@@ -1,8 +1,9 @@
 // The grammar: the forms that stand in parentheses, the commands, and what each takes at each of its places.
-ghost use Rattle.std.specs.Prelude.{◌≡◌, ◌≤◌};
+ghost use Rattle.std.specs.Prelude.{◌≡◌, ◌≤◌, length};
 ghost use Rattle.text.specs.Forms.{form_sort};
 
-use theory::{ArgSort, ListSort, Sort, VariableSort, Want};
+use crate::reason::Reason;
+use theory::{ArgSort, ListSort, Sort, Want};
 
 #[derive(Clone, Copy, PartialEq, Eq)]
 pub enum Verb {
@@ -47,8 +48,6 @@ pub enum Open {
 // What may stand at a place.
 #[derive(Clone, Copy)]
 pub enum Place {
-    // nothing: the form is complete
-    Nothing,
     // a number, at most this large
     Number(u64),
     Term(Want),
@@ -58,15 +57,6 @@ pub enum Place {
     Letter,
     TypeVariable,
     Question,
-}
-
-// What a word in the place of a head says.
-#[derive(Clone, Copy)]
-pub enum HeadWord {
-    Form(Form),
-    // a form of the grammar that is not read yet
-    NotYet,
-    Unknown,
 }
 
 const NUMBER: Place = Place::Number(0xffff_ffff);
@@ -85,16 +75,20 @@ const OPAQUES: Place = Place::Term(Want::Of(Sort::List(ListSort::OpaquePairs)));
 
 const PREDICATE: Place = Place::Term(Want::Of(Sort::Predicate));
 
-pub fn verb_of(word: &[u8]) -> Option<Verb> {
-    match word {
-        b"new" => Some(Verb::New),
-        b"term" => Some(Verb::Term),
-        b"var" => Some(Verb::Var),
-        b"universe" => Some(Verb::Universe),
-        b"join" => Some(Verb::Join),
-        b"goal" => Some(Verb::Goal),
-        b"compare" => Some(Verb::Compare),
-        _ => None,
+impl TryFrom<&[u8]> for Verb {
+    type Error = Reason;
+
+    fn try_from(word: &[u8]) -> Result<Verb, Reason> {
+        match word {
+            b"new" => Ok(Verb::New),
+            b"term" => Ok(Verb::Term),
+            b"var" => Ok(Verb::Var),
+            b"universe" => Ok(Verb::Universe),
+            b"join" => Ok(Verb::Join),
+            b"goal" => Ok(Verb::Goal),
+            b"compare" => Ok(Verb::Compare),
+            _ => Err(Reason::UnknownCommand),
+        }
     }
 }
 
@@ -140,180 +134,151 @@ fn value_form(word: &[u8]) -> Option<Form> {
     }
 }
 
+// The forms of the grammar that are not read yet.
 fn is_later_form(word: &[u8]) -> bool {
-    match word {
+    matches!(
+        word,
         b"state"
-        | b"resp"
-        | b"canon"
-        | b"vals"
-        | b"rcs"
-        | b"outl"
-        | b"eq"
-        | b"goals"
-        | b"goal"
-        | b"mode" => true,
-        _ => false,
+            | b"resp"
+            | b"canon"
+            | b"vals"
+            | b"rcs"
+            | b"outl"
+            | b"eq"
+            | b"goals"
+            | b"goal"
+            | b"mode"
+    )
+}
+
+impl TryFrom<&[u8]> for Form {
+    type Error = Reason;
+
+    fn try_from(word: &[u8]) -> Result<Form, Reason> {
+        match term_form(word).or(value_form(word)) {
+            Some(form) => Ok(form),
+            None if is_later_form(word) => Err(Reason::NotYet),
+            None => Err(Reason::UnknownForm),
+        }
     }
 }
 
-pub fn head_word(word: &[u8]) -> HeadWord {
-    if let Some(form) = term_form(word) {
-        return HeadWord::Form(form);
+// The places of a line or a form: some that have to be filled, and what may follow them, as often as it likes.
+#[derive(Clone, Copy)]
+pub struct Places {
+    first: &'static [Place],
+    rest: Option<Place>,
+    ghost few: { length first.now ≤ 4 },
+}
+
+impl Places {
+    fn just(first: &'static [Place]) -> Places
+        requires { length first.now ≤ 4 }
+    {
+        Places { first, rest: None }
     }
-    if let Some(form) = value_form(word) {
-        return HeadWord::Form(form);
+
+    fn then(first: &'static [Place], rest: Want) -> Places
+        requires { length first.now ≤ 4 }
+    {
+        Places {
+            first,
+            rest: Some(Place::Term(rest)),
+        }
     }
-    if is_later_form(word) {
-        HeadWord::NotYet
-    } else {
-        HeadWord::Unknown
+
+    // What stands at an index, or none behind the last place.
+    pub fn at(self, index: usize) -> Option<Place> {
+        self.first.get(index).copied().or(self.rest)
+    }
+
+    // How many places have to be filled.
+    pub fn least(self) -> usize
+        ensures { result ≤ 4 }
+    {
+        self.first.len()
     }
 }
 
-pub fn letter(word: &[u8]) -> Option<VariableSort> {
-    match word {
-        b"t" => Some(VariableSort::Ty),
-        b"i" => Some(VariableSort::Int),
-        b"f" => Some(VariableSort::Float),
-        b"r" => Some(VariableSort::Region),
-        b"c" => Some(VariableSort::Const),
-        _ => None,
+impl Verb {
+    fn places(self) -> Places {
+        match self {
+            Verb::New | Verb::Universe => Places::just(&[]),
+            Verb::Term => Places::just(&[Place::AnyValue]),
+            Verb::Var => Places::just(&[Place::Letter, UNIVERSE]),
+            Verb::Join => Places::just(&[Place::TypeVariable, Place::TypeVariable]),
+            Verb::Goal => Places::just(&[TAG, ENVIRONMENT, Place::AnyValue, OPAQUES]),
+            Verb::Compare => Places::just(&[Place::Question, Place::Question]),
+        }
     }
 }
 
-// The place at an index among a few, and nothing after them.
-fn among(places: &[Place], index: usize) -> Place {
-    match places.get(index) {
-        Some(place) => *place,
-        None => Place::Nothing,
+impl Form {
+    fn places(self) -> Places {
+        match self {
+            Form::Constructor | Form::Alias | Form::Function | Form::Unevaluated => Places::then(
+                &[NUMBER],
+                Want::Argument,
+            ),
+            Form::Predicate => Places::then(&[NUMBER, NUMBER], Want::Argument),
+            Form::List(sort) => Places::then(&[], sort.element()),
+            Form::Value => Places::just(&[TYPE, VALUE]),
+            Form::Parameter(_) | Form::LateParameter => Places::just(&[NUMBER]),
+            Form::Bound(_) => Places::just(&[NUMBER, NUMBER]),
+            Form::Placeholder(_) | Form::PlaceholderKind(_) | Form::TyKind => Places::just(&[
+                UNIVERSE, NUMBER,
+            ]),
+            Form::RegionKind | Form::ConstKind => Places::just(&[UNIVERSE]),
+            Form::OpaquePair => Places::just(&[Place::Term(Want::Alias), TYPE]),
+            Form::Goal => Places::just(&[ENVIRONMENT, PREDICATE]),
+        }
+    }
+
+    // The sort of what the form makes.
+    pub fn sort(self) -> Sort
+        ensures { result ≡ form_sort self }
+    {
+        match self {
+            Form::Constructor | Form::Alias | Form::Function => Sort::Argument(ArgSort::Ty),
+            Form::Unevaluated | Form::Value => Sort::Argument(ArgSort::Const),
+            Form::Parameter(sort) | Form::Placeholder(sort) | Form::Bound(sort) => Sort::Argument(
+                sort,
+            ),
+            Form::LateParameter => Sort::Argument(ArgSort::Region),
+            Form::Predicate => Sort::Predicate,
+            Form::OpaquePair => Sort::OpaquePair,
+            Form::Goal => Sort::Goal,
+            Form::List(sort) => Sort::List(sort),
+            Form::TyKind | Form::RegionKind | Form::ConstKind | Form::PlaceholderKind(_) => {
+                Sort::Kind
+            }
+        }
+    }
+
+    pub fn is_alias(self) -> bool {
+        matches!(self, Form::Alias)
     }
 }
 
-// A place for numbers first, then as many terms as there are.
-fn numbers_then(numbers: usize, index: usize, want: Want) -> Place {
-    if index < numbers {
-        NUMBER
-    } else {
-        Place::Term(want)
+impl Open {
+    pub(crate) fn places(self) -> Places {
+        match self {
+            Open::Line(verb) => verb.places(),
+            Open::Form(form) => form.places(),
+        }
     }
 }
 
-fn line_place(verb: Verb, index: usize) -> Place {
-    match verb {
-        Verb::New | Verb::Universe => Place::Nothing,
-        Verb::Term => among(&[Place::AnyValue], index),
-        Verb::Var => among(&[Place::Letter, UNIVERSE], index),
-        Verb::Join => among(&[Place::TypeVariable, Place::TypeVariable], index),
-        Verb::Goal => among(&[TAG, ENVIRONMENT, Place::AnyValue, OPAQUES], index),
-        Verb::Compare => among(&[Place::Question, Place::Question], index),
-    }
-}
-
-fn form_place(form: Form, index: usize) -> Place {
-    match form {
-        Form::Constructor | Form::Alias | Form::Function | Form::Unevaluated => numbers_then(
-            1,
-            index,
-            Want::Argument,
-        ),
-        Form::Predicate => numbers_then(2, index, Want::Argument),
-        Form::List(sort) => Place::Term(sort.element()),
-        Form::Value => among(&[TYPE, VALUE], index),
-        Form::Parameter(_) | Form::LateParameter => among(&[NUMBER], index),
-        Form::Bound(_) => among(&[NUMBER, NUMBER], index),
-        Form::Placeholder(_) | Form::PlaceholderKind(_) | Form::TyKind => among(
-            &[UNIVERSE, NUMBER],
-            index,
-        ),
-        Form::RegionKind | Form::ConstKind => among(&[UNIVERSE], index),
-        Form::OpaquePair => among(&[Place::Term(Want::Alias), TYPE], index),
-        Form::Goal => among(&[ENVIRONMENT, PREDICATE], index),
-    }
-}
-
-// What a line or a form takes at an index.
-pub fn place_at(open: Open, index: usize) -> Place {
-    match open {
-        Open::Line(verb) => line_place(verb, index),
-        Open::Form(form) => form_place(form, index),
-    }
-}
-
-fn least_of_line(verb: Verb) -> usize
-    ensures { result ≤ 4 }
-{
-    match verb {
-        Verb::New | Verb::Universe => 0,
-        Verb::Term => 1,
-        Verb::Var | Verb::Join | Verb::Compare => 2,
-        Verb::Goal => 4,
-    }
-}
-
-fn least_of_form(form: Form) -> usize
-    ensures { result ≤ 2 }
-{
-    match form {
-        Form::List(_) => 0,
-        Form::Constructor | Form::Alias | Form::Function | Form::Unevaluated => 1,
-        Form::Parameter(_) | Form::LateParameter | Form::RegionKind | Form::ConstKind => 1,
-        Form::Predicate | Form::Value | Form::Bound(_) | Form::Placeholder(_) => 2,
-        Form::PlaceholderKind(_) | Form::TyKind | Form::OpaquePair | Form::Goal => 2,
-    }
-}
-
-// How many places have to be filled.
-pub fn least(open: Open) -> usize
-    ensures { result ≤ 4 }
-{
-    match open {
-        Open::Line(verb) => least_of_line(verb),
-        Open::Form(form) => least_of_form(form),
-    }
-}
-
-// The sort of what a form makes.
-pub fn form_sort(form: Form) -> Sort
-    ensures { result ≡ form_sort form }
-{
-    match form {
-        Form::Constructor | Form::Alias | Form::Function => Sort::Argument(ArgSort::Ty),
-        Form::Unevaluated | Form::Value => Sort::Argument(ArgSort::Const),
-        Form::Parameter(sort) | Form::Placeholder(sort) | Form::Bound(sort) => Sort::Argument(sort),
-        Form::LateParameter => Sort::Argument(ArgSort::Region),
-        Form::Predicate => Sort::Predicate,
-        Form::OpaquePair => Sort::OpaquePair,
-        Form::Goal => Sort::Goal,
-        Form::List(sort) => Sort::List(sort),
-        Form::TyKind | Form::RegionKind | Form::ConstKind | Form::PlaceholderKind(_) => Sort::Kind,
-    }
-}
-
-pub fn is_alias(form: Form) -> bool {
-    match form {
-        Form::Alias => true,
-        _ => false,
-    }
-}
-
-// A value that may stand by itself: parts of lists, as a kind or an opaque pair, may not.
-fn stands_alone(sort: Sort) -> bool {
-    match sort {
-        Sort::Argument(_) | Sort::Predicate | Sort::Goal | Sort::List(_) => true,
-        Sort::OpaquePair | Sort::Constraint | Sort::Kind => false,
-    }
-}
-
-// Whether a place takes a value of a sort; an alias is a type that some places ask for.
-pub fn takes(place: Place, sort: Sort, is_alias: bool) -> bool {
-    match place {
-        Place::Term(Want::Argument) => match sort {
-            Sort::Argument(_) => true,
-            _ => false,
-        },
-        Place::Term(Want::Alias) => is_alias,
-        Place::Term(Want::Of(wanted)) => wanted == sort,
-        Place::AnyValue => stands_alone(sort),
-        _ => false,
+impl Place {
+    // Whether the place takes a value of a sort; an alias is a type that some places ask for.
+    pub fn takes(self, sort: Sort, is_alias: bool) -> bool {
+        match self {
+            Place::Term(Want::Argument) => matches!(sort, Sort::Argument(_)),
+            Place::Term(Want::Alias) => is_alias,
+            Place::Term(Want::Of(wanted)) => wanted == sort,
+            // parts of lists, as a kind or an opaque pair, do not stand alone
+            Place::AnyValue => !matches!(sort, Sort::OpaquePair | Sort::Constraint | Sort::Kind),
+            Place::Number(_) | Place::Letter | Place::TypeVariable | Place::Question => false,
+        }
     }
 }

@@ -3,13 +3,17 @@
 
 mod build;
 mod form;
+mod letter;
 mod lex;
 mod print;
 mod read;
 mod reason;
+mod shown;
 mod trouble;
+mod width;
 
-pub use print::{Printer, sort_letter};
+pub use letter::Letter;
+pub use print::Printer;
 pub use read::{Command, Reader};
-pub use reason::{Complaint, write_complaint};
+pub use reason::{BadLine, Complaint};
 pub use trouble::Trouble;

@@ -1,10 +1,11 @@
-// The reader: takes a line in one pass, with the open forms on a stack of its own, and adds its terms to the store.
-use crate::build::Numbers;
-use crate::form::{Form, HeadWord, Open, Place, Verb};
-use crate::lex::{Mark, Token, Word};
+// The reader: takes a line in one pass and adds its terms to the store. The open forms stand on a stack of its own, since a
+// line may nest as deep as it is long.
+use crate::build::{Numbers, build};
+use crate::form::{Form, Open, Place, Verb};
+use crate::letter::Letter;
+use crate::lex::{self, Mark, Span, Token, Tokens, WordFault};
 use crate::reason::{Complaint, Reason};
 use crate::trouble::Trouble;
-use crate::{build, form, lex};
 use solver::Goal;
 use std::alloc::Global;
 use terms::Store;
@@ -22,23 +23,30 @@ pub enum Command {
     Compare(usize, usize),
 }
 
-// A line or a form that is open: its first token, where its parts begin on the stack, how many of its places are
-// filled, and the letter and the numbers among them.
+// What is wrong, with the place where it is.
+fn located<T>(span: Span, outcome: Result<T, Reason>) -> Result<T, Trouble> {
+    outcome.map_err(|reason| Trouble::Bad(Complaint { span, reason }))
+}
+
+// A line or a form that is open: where its first token lies, where its parts begin on the stack, how many of its places
+// are filled, and the letter and the numbers among them.
 #[derive(Clone, Copy)]
 struct Frame {
     open: Open,
-    token: Token,
+    span: Span,
     first: usize,
     filled: usize,
+    // No Option: a command is made of a line whose places are filled, so that one would only add a branch that is never
+    // taken.
     letter: VariableSort,
     numbers: Numbers,
 }
 
 impl Frame {
-    fn new(open: Open, token: Token, first: usize) -> Frame {
+    fn new(open: Open, span: Span, first: usize) -> Frame {
         Frame {
             open,
-            token,
+            span,
             first,
             filled: 0,
             letter: VariableSort::Ty,
@@ -46,113 +54,225 @@ impl Frame {
         }
     }
 
-    fn place(&self) -> Place {
-        form::place_at(self.open, self.filled)
+    // The next place.
+    fn place(&self) -> Result<Place, Reason> {
+        let place = self.open.places().at(self.filled);
+        place.ok_or(Reason::TooMany(self.filled))
     }
 
-    // Whether every place that has to be filled is; the token says where the frame ends.
-    fn complete(&self, end: Token) -> Result<(), Trouble> {
-        let least = form::least(self.open);
+    // Whether the next place takes a value of a sort.
+    fn admit(&self, sort: Sort, is_alias: bool) -> Result<(), Reason> {
+        let place = self.place()?;
+        if place.takes(sort, is_alias) {
+            Ok(())
+        } else {
+            Err(Reason::Misplaced(sort, place))
+        }
+    }
+
+    // Whether every place that has to be filled is.
+    fn complete(&self) -> Result<(), Reason> {
+        let least = self.open.places().least();
         if self.filled < least {
-            bad(end, Reason::TooFew(self.filled, least))
+            Err(Reason::TooFew(self.filled, least))
         } else {
             Ok(())
         }
     }
 }
 
-fn bad<T>(token: Token, reason: Reason) -> Result<T, Trouble> {
-    Err(Trouble::Bad(Complaint { token, reason }))
-}
-
-// What is said of a value that a frame does not take at its next place.
-fn misplaced(frame: &Frame, sort: Sort) -> Reason {
-    match frame.place() {
-        Place::Nothing => Reason::TooMany(frame.filled),
-        place => Reason::Misplaced(sort, place),
+fn verb_of(token: Token<'_>) -> Result<Verb, Reason> {
+    if token.mark == Mark::Word {
+        Verb::try_from(token.word)
+    } else {
+        Err(Reason::NoCommand)
     }
 }
 
-fn verb_at(text: &[u8], token: Token) -> Result<Verb, Trouble> {
-    if token.mark != Mark::Word {
-        return bad(token, Reason::NoCommand);
-    }
-    match form::verb_of(lex::bytes_of(text, token)) {
-        Some(verb) => Ok(verb),
-        None => bad(token, Reason::UnknownCommand),
+fn form_of(token: Token<'_>) -> Result<Form, Reason> {
+    if token.mark == Mark::Word {
+        Form::try_from(token.word)
+    } else {
+        Err(Reason::NoHead)
     }
 }
 
-fn form_at(text: &[u8], token: Token) -> Result<Form, Trouble> {
-    if token.mark != Mark::Word {
-        return bad(token, Reason::NoHead);
-    }
-    match form::head_word(lex::bytes_of(text, token)) {
-        HeadWord::Form(form) => Ok(form),
-        HeadWord::NotYet => bad(token, Reason::NotYet),
-        HeadWord::Unknown => bad(token, Reason::UnknownForm),
+// What a word fills a place with.
+#[derive(Clone, Copy)]
+enum Field {
+    Number(u64),
+    Letter(VariableSort),
+    Leaf(Leaf),
+}
+
+// The number of a type variable.
+fn type_variable(word: &[u8]) -> Result<u64, WordFault> {
+    match lex::leaf(word)? {
+        Leaf::Variable(VarSort::Ty, n) => Ok(u64::from(n)),
+        _ => Err(WordFault::Unknown),
     }
 }
 
-// The number that a word is, at a place that takes one.
-fn number_at(word: Word, token: Token, place: Place) -> Result<u64, Trouble> {
+// The letter that a word is.
+fn letter(word: &[u8]) -> Result<VariableSort, WordFault> {
     match word {
-        Word::Number(n) => Ok(n),
-        Word::TooLarge(limit) => bad(token, Reason::TooLarge(limit)),
-        _ => bad(token, Reason::Wanted(place)),
+        [b] => Ok(Letter::try_from(*b)?.0),
+        _ => Err(WordFault::Unknown),
+    }
+}
+
+// The number of a question, of which so many are asked.
+fn question(word: &[u8], asked: usize) -> Result<u64, Reason> {
+    let number = lex::question(word).map_err(|fault| Reason::of(fault, Place::Question))?;
+    if number < asked as u64 {
+        Ok(number)
+    } else {
+        Err(Reason::UnknownQuestion)
     }
 }
 
 // The leaf that a word is, at a place that takes terms.
-fn leaf_at(word: &[u8], token: Token, place: Place) -> Result<Leaf, Trouble> {
+fn leaf(word: &[u8], place: Place) -> Result<Leaf, Reason> {
     match lex::leaf(word) {
-        Word::Leaf(leaf) => Ok(leaf),
-        Word::TooLarge(limit) => bad(token, Reason::TooLarge(limit)),
-        _ => match lex::number(word, 0) {
-            Word::Unknown => bad(token, Reason::UnknownWord),
-            _ => bad(token, Reason::NumberMisplaced(place)),
-        },
+        Ok(leaf) => Ok(leaf),
+        Err(WordFault::TooLarge(limit)) => Err(Reason::TooLarge(limit)),
+        Err(WordFault::Unknown) => Err(match lex::number(word, 0) {
+            Err(WordFault::Unknown) => Reason::UnknownWord,
+            _ => Reason::NumberMisplaced(place),
+        }),
     }
 }
 
-// The number of a type variable.
-fn type_variable_at(word: &[u8], token: Token) -> Result<u64, Trouble> {
-    match lex::leaf(word) {
-        Word::Leaf(Leaf::Variable(VarSort::Ty, n)) => Ok(u64::from(n)),
-        Word::TooLarge(limit) => bad(token, Reason::TooLarge(limit)),
-        _ => bad(token, Reason::Wanted(Place::TypeVariable)),
-    }
+// What a word says at a place.
+fn field_of(word: &[u8], place: Place, asked: usize) -> Result<Field, Reason> {
+    let read = match place {
+        Place::Number(limit) => lex::number(word, limit).map(Field::Number),
+        Place::TypeVariable => type_variable(word).map(Field::Number),
+        Place::Letter => letter(word).map(Field::Letter),
+        Place::Question => return question(word, asked).map(Field::Number),
+        Place::Term(_) | Place::AnyValue => return leaf(word, place).map(Field::Leaf),
+    };
+    read.map_err(|fault| Reason::of(fault, place))
 }
 
-fn parts_from(parts: &[Handle], first: usize) -> &[Handle] {
-    match parts.get(first..) {
-        Some(rest) => rest,
-        None => &[],
+// A line that is being read into a store.
+#[derive(Drop)]
+struct Line<'a, 'm> {
+    store: &'a mut Store<'m>,
+    outer: &'a mut Vec<Frame>,
+    parts: &'a mut Vec<Handle>,
+    // how many questions there are
+    asked: usize,
+    top: Frame,
+    // the first refusal of the store: reading goes on, since a line that cannot be read is bad before all else
+    accepted: Result<(), StoreFault>,
+}
+
+impl Line<'_, '_> {
+    // Opens a form, if it may stand where it does.
+    fn open(&mut self, span: Span, head: Option<Token<'_>>) -> Result<(), Trouble> {
+        let head = located(span, head.ok_or(Reason::NoClose))?;
+        let form = located(head.span, form_of(head))?;
+        located(span, self.top.admit(form.sort(), form.is_alias()))?;
+        self.outer.push(self.top)?;
+        self.top = Frame::new(Open::Form(form), span, self.parts.len());
+        Ok(())
+    }
+
+    // Closes the form on top: its parts give way to the term that they make.
+    fn close(&mut self, span: Span) -> Result<(), Trouble> {
+        let frame = self.top;
+        let Open::Form(form) = frame.open else {
+            return located(span, Err(Reason::NoOpen));
+        };
+        located(span, frame.complete())?;
+        let term = self.term(form, frame);
+        self.parts.truncate(frame.first);
+        if let Some(outer) = self.outer.pop() {
+            self.top = outer;
+        }
+        self.put(term)
+    }
+
+    // The term of a form with the parts that stand on the stack for it.
+    fn term(&mut self, form: Form, frame: Frame) -> Result<Handle, StoreFault> {
+        self.accepted?;
+        let parts = self.parts.get(frame.first..).unwrap_or_default();
+        build(self.store, form, frame.numbers, parts)
+    }
+
+    // The term of a leaf.
+    fn leaf(&mut self, leaf: Leaf) -> Result<Handle, StoreFault> {
+        self.accepted?;
+        self.store.add_leaf(leaf)
+    }
+
+    // Fills a place of the top with a term, or notes why there is none.
+    fn put(&mut self, term: Result<Handle, StoreFault>) -> Result<(), Trouble> {
+        match term {
+            Ok(handle) => self.parts.push(handle)?,
+            Err(fault) => self.accepted = Err(fault),
+        }
+        self.top.filled = self.top.filled.saturating_add(1);
+        Ok(())
+    }
+
+    fn word(&mut self, token: Token<'_>) -> Result<(), Trouble> {
+        let place = located(token.span, self.top.place())?;
+        match located(token.span, field_of(token.word, place, self.asked))? {
+            Field::Number(number) => self.top.numbers = self.top.numbers.then(number),
+            Field::Letter(letter) => self.top.letter = letter,
+            Field::Leaf(leaf) => {
+                located(token.span, self.top.admit(leaf.sort(), false))?;
+                let term = self.leaf(leaf);
+                return self.put(term);
+            }
+        }
+        self.top.filled = self.top.filled.saturating_add(1);
+        Ok(())
+    }
+
+    // The command of a line that is read to its end.
+    fn finish(&self, verb: Verb, end: Span) -> Result<Command, Trouble> {
+        if let Open::Form(_) = self.top.open {
+            return located(self.top.span, Err(Reason::NoClose));
+        }
+        located(end, self.top.complete())?;
+        self.accepted?;
+        let numbers = self.top.numbers;
+        Ok(match verb {
+            Verb::New => Command::New,
+            Verb::Universe => Command::Universe,
+            Verb::Term => Command::Term(self.part(0)),
+            Verb::Var => Command::Var(self.top.letter, numbers.last()),
+            Verb::Join => Command::Join(numbers.earlier(), numbers.last()),
+            Verb::Compare => Command::Compare(numbers.earlier(), numbers.last()),
+            Verb::Goal => Command::Goal(Goal {
+                env: self.part(0),
+                value: self.part(1),
+                opaques: self.part(2),
+                mode: numbers.last(),
+            }),
+        })
+    }
+
+    fn part(&self, place: usize) -> Handle {
+        self.parts.get(place).copied().unwrap_or(0)
     }
 }
 
 // The stacks of a reader keep their memory from line to line.
 #[derive(Drop)]
 pub struct Reader {
-    top: Frame,
     outer: Vec<Frame>,
     parts: Vec<Handle>,
-    // the first refusal of the store: reading goes on, since a line that cannot be read is bad before all else
-    refusal: Option<StoreFault>,
 }
 
 impl Reader {
     pub fn new(heap: Global) -> Reader {
-        let token = Token {
-            mark: Mark::End,
-            start: 0,
-            end: 0,
-        };
         Reader {
-            top: Frame::new(Open::Line(Verb::New), token, 0),
             outer: Vec::new(heap),
             parts: Vec::new(heap),
-            refusal: None,
         }
     }
 
@@ -163,178 +283,29 @@ impl Reader {
         text: &[u8],
         asked: usize,
     ) -> Result<Option<Command>, Trouble> {
-        let first = lex::next_token(text, 0);
-        if first.mark == Mark::End {
+        let mut tokens = Tokens::new(text);
+        let Some(first) = tokens.next() else {
             return Ok(None);
-        }
-        let verb = verb_at(text, first)?;
-        self.begin(verb, first);
-        let mut at = first.end;
-        for _ in 0..u64::MAX {
-            let token = lex::next_token(text, at);
-            at = match token.mark {
-                Mark::End => break,
-                Mark::Open => self.open(text, token)?,
-                Mark::Close => self.close(store, token)?,
-                Mark::Word => self.word(store, text, token, asked)?,
-                Mark::Foreign => return bad(token, Reason::Foreign),
-            };
-        }
-        let end = Token {
-            mark: Mark::End,
-            start: at,
-            end: at,
         };
-        Ok(Some(self.finish(verb, end)?))
-    }
-
-    fn begin(&mut self, verb: Verb, token: Token) {
-        self.top = Frame::new(Open::Line(verb), token, 0);
+        let verb = located(first.span, verb_of(first))?;
         self.outer.clear();
         self.parts.clear();
-        self.refusal = None;
-    }
-
-    // Opens a form, if it may stand where it does; answers where the text goes on, as the next two do.
-    fn open(&mut self, text: &[u8], token: Token) -> Result<usize, Trouble> {
-        let head = lex::next_token(text, token.end);
-        if head.mark == Mark::End {
-            return bad(token, Reason::NoClose);
-        }
-        let form = form_at(text, head)?;
-        let sort = form::form_sort(form);
-        if !form::takes(self.top.place(), sort, form::is_alias(form)) {
-            return bad(token, misplaced(&self.top, sort));
-        }
-        self.outer.push(self.top)?;
-        self.top = Frame::new(Open::Form(form), token, self.parts.len());
-        Ok(head.end)
-    }
-
-    // Closes the form on top: its parts give way to the term that they make.
-    fn close(&mut self, store: &mut Store<'_>, token: Token) -> Result<usize, Trouble> {
-        let frame = self.top;
-        let Open::Form(form) = frame.open else {
-            return bad(token, Reason::NoOpen);
+        let mut line = Line {
+            store,
+            outer: &mut self.outer,
+            parts: &mut self.parts,
+            asked,
+            top: Frame::new(Open::Line(verb), first.span, 0),
+            accepted: Ok(()),
         };
-        frame.complete(token)?;
-        let term = self.term(store, form, frame);
-        self.parts.truncate(frame.first);
-        if let Some(outer) = self.outer.pop() {
-            self.top = outer;
-        }
-        self.put(term)?;
-        Ok(token.end)
-    }
-
-    // The term of a form with the parts that stand on the stack for it.
-    fn term(&self, store: &mut Store<'_>, form: Form, frame: Frame) -> Result<Handle, StoreFault> {
-        match self.refusal {
-            None => build::build(
-                store,
-                form,
-                frame.numbers,
-                parts_from(self.parts.as_slice(), frame.first),
-            ),
-            Some(fault) => Err(fault),
-        }
-    }
-
-    // Fills a place of the top with a term, or notes why there is none.
-    fn put(&mut self, term: Result<Handle, StoreFault>) -> Result<(), Trouble> {
-        match term {
-            Ok(handle) => self.parts.push(handle)?,
-            Err(fault) => self.refusal = Some(fault),
-        }
-        self.top.filled = self.top.filled.saturating_add(1);
-        Ok(())
-    }
-
-    fn put_number(&mut self, number: u64) {
-        self.top.numbers = self.top.numbers.then(number);
-        self.top.filled = self.top.filled.saturating_add(1);
-    }
-
-    fn put_letter(&mut self, letter: VariableSort) {
-        self.top.letter = letter;
-        self.top.filled = self.top.filled.saturating_add(1);
-    }
-
-    fn word(
-        &mut self,
-        store: &mut Store<'_>,
-        text: &[u8],
-        token: Token,
-        asked: usize,
-    ) -> Result<usize, Trouble> {
-        let word = lex::bytes_of(text, token);
-        let place = self.top.place();
-        match place {
-            Place::Nothing => return bad(token, Reason::TooMany(self.top.filled)),
-            Place::Number(limit) => self.put_number(number_at(
-                lex::number(word, limit),
-                token,
-                place,
-            )?),
-            Place::TypeVariable => self.put_number(type_variable_at(word, token)?),
-            Place::Question => {
-                let number = number_at(lex::question(word), token, place)?;
-                if number >= asked as u64 {
-                    return bad(token, Reason::UnknownQuestion);
-                }
-                self.put_number(number)
-            }
-            Place::Letter => match form::letter(word) {
-                Some(letter) => self.put_letter(letter),
-                None => return bad(token, Reason::Wanted(place)),
-            },
-            Place::Term(_) | Place::AnyValue => {
-                let leaf = leaf_at(word, token, place)?;
-                self.leaf(store, leaf, token)?
+        while let Some(token) = tokens.next() {
+            match token.mark {
+                Mark::Open => line.open(token.span, tokens.next())?,
+                Mark::Close => line.close(token.span)?,
+                Mark::Word => line.word(token)?,
+                Mark::Foreign => return located(token.span, Err(Reason::Foreign)),
             }
         }
-        Ok(token.end)
-    }
-
-    fn leaf(&mut self, store: &mut Store<'_>, leaf: Leaf, token: Token) -> Result<(), Trouble> {
-        let sort = leaf.sort();
-        if !form::takes(self.top.place(), sort, false) {
-            return bad(token, misplaced(&self.top, sort));
-        }
-        let term = match self.refusal {
-            None => store.add_leaf(leaf),
-            Some(fault) => Err(fault),
-        };
-        self.put(term)
-    }
-
-    // The command of a line that is read to its end.
-    fn finish(&self, verb: Verb, end: Token) -> Result<Command, Trouble> {
-        if let Open::Form(_) = self.top.open {
-            return bad(self.top.token, Reason::NoClose);
-        }
-        self.top.complete(end)?;
-        if let Some(fault) = self.refusal {
-            return Err(Trouble::from(fault));
-        }
-        let numbers = self.top.numbers;
-        Ok(match verb {
-            Verb::New => Command::New,
-            Verb::Universe => Command::Universe,
-            Verb::Term => Command::Term(self.part(0)),
-            Verb::Var => Command::Var(self.top.letter, numbers.last_universe()),
-            Verb::Join => Command::Join(numbers.earlier(), numbers.last()),
-            Verb::Compare => Command::Compare(numbers.earlier() as usize, numbers.last() as usize),
-            Verb::Goal => Command::Goal(Goal {
-                env: self.part(0),
-                value: self.part(1),
-                opaques: self.part(2),
-                mode: numbers.last_tag(),
-            }),
-        })
-    }
-
-    fn part(&self, place: usize) -> Handle {
-        self.parts.get(place).copied().unwrap_or(0)
+        line.finish(verb, tokens.place()).map(Some)
     }
 }

@@ -1,8 +1,11 @@
 // Why a line has no result.
-ghost use Rattle.std.specs.Prelude.{◌≡◌};
+ghost use Rattle.std.specs.Prelude.{◌≡◌, Some};
 ghost use Rattle.host.specs.Numbers.{host_number};
+ghost use Rattle.host.specs.declared.fault.HostFault.TheVariants.{Store as in_store};
 ghost use Rattle.solver.specs.Numbers.{call_number};
+ghost use Rattle.solver.specs.declared.canonical.CallFault.TheVariants.{Host as in_host};
 ghost use Rattle.theory.specs.Outcomes.{store_number};
+ghost use Rattle.text.specs.Troubles.{refusal};
 ghost use Rattle.text.specs.declared.trouble.Trouble.TheVariants.{Refused as refused_by, Memory};
 
 use crate::reason::Complaint;
@@ -16,8 +19,8 @@ use theory::StoreFault;
 pub enum Trouble {
     // the line cannot be read
     Bad(Complaint),
-    // a call refuses, with its number
-    Refused(u8),
+    // a call refuses: its fault, whole
+    Refused(CallFault),
     // want of memory: it ends the program
     Memory,
 }
@@ -48,25 +51,25 @@ impl From<fmt::Error> for Trouble {
 }
 
 impl From<StoreFault> for Trouble {
-    ghost from_gives = { λ e r. r ≡ refused_by (store_number e) };
+    ghost from_gives = { λ e r. (r ≡ refused_by (in_host (in_store e))) × (refusal r ≡ Some (store_number e)) };
 
     fn from(fault: StoreFault) -> Trouble {
-        Trouble::Refused(HostFault::Store(fault).number())
+        Trouble::from(HostFault::Store(fault))
     }
 }
 
 impl From<HostFault> for Trouble {
-    ghost from_gives = { λ e r. r ≡ refused_by (host_number e) };
+    ghost from_gives = { λ e r. (r ≡ refused_by (in_host e)) × (refusal r ≡ Some (host_number e)) };
 
     fn from(fault: HostFault) -> Trouble {
-        Trouble::Refused(fault.number())
+        Trouble::Refused(CallFault::from(fault))
     }
 }
 
 impl From<CallFault> for Trouble {
-    ghost from_gives = { λ e r. r ≡ refused_by (call_number e) };
+    ghost from_gives = { λ e r. (r ≡ refused_by e) × (refusal r ≡ Some (call_number e)) };
 
     fn from(fault: CallFault) -> Trouble {
-        Trouble::Refused(fault.number())
+        Trouble::Refused(fault)
     }
 }

@@ -1,6 +1,7 @@
 pub mod Limits
 pub mod Outcomes
 pub mod Codes
+pub mod Sorts
 pub mod Trees
 pub mod Store
 pub mod Folds

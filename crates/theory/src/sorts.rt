@@ -2,7 +2,8 @@
 ghost use Rattle.std.specs.Prelude.{◌≡◌};
 ghost use Rattle.theory.specs.Log.{of_var};
 ghost use Rattle.theory.specs.Forms.{variable_of};
-ghost use Rattle.theory.specs.Trees.{var_sort, leaf_sort, head_sort, node_sort, element, part_count};
+ghost use Rattle.theory.specs.Sorts.{of_argument};
+ghost use Rattle.theory.specs.Trees.{var_sort, leaf_sort, head_sort, node_sort, element, part_count, applies};
 
 use crate::words::{ArgSort, Head, Leaf, ListSort, Node, Sort, VarSort, VariableSort, Want};
 
@@ -27,6 +28,18 @@ impl From<VarSort> for VariableSort {
             VarSort::Int => VariableSort::Int,
             VarSort::Float => VariableSort::Float,
             VarSort::Const => VariableSort::Const,
+        }
+    }
+}
+
+impl From<ArgSort> for VariableSort {
+    ghost from_gives = { λ s r. r ≡ of_argument s };
+
+    fn from(sort: ArgSort) -> VariableSort {
+        match sort {
+            ArgSort::Ty => VariableSort::Ty,
+            ArgSort::Region => VariableSort::Region,
+            ArgSort::Const => VariableSort::Const,
         }
     }
 }
@@ -77,6 +90,20 @@ impl Head {
             Head::Outlives(_) | Head::Equal(_) => Sort::Constraint,
             Head::List(s) => Sort::List(s),
         }
+    }
+
+    // Whether the head stands over one list, of its arguments, and not over its parts themselves.
+    pub fn applies(self) -> bool
+        ensures { result ≡ applies self }
+    {
+        matches!(
+            self,
+            Head::Constructor(_)
+                | Head::Alias(_)
+                | Head::Function(_)
+                | Head::Unevaluated(_)
+                | Head::Predicate(_, _)
+        )
     }
 }
 
