@@ -69,42 +69,42 @@ pub fn takes_part(head: Head, place: usize, part: Node) -> bool
     }
 }
 
-fn flags_of_variable(sort: VarSort) -> u16
-    ensures { result ≡ var_flags sort }
+fn flags_of_variable(sort: VarSort) -> Flags
+    ensures { result.bits ≡ var_flags sort }
 {
     match sort {
-        VarSort::Ty => 1,
-        VarSort::Int => 2,
-        VarSort::Float => 4,
-        VarSort::Const => 8,
+        VarSort::Ty => Flags::TY_VARIABLE,
+        VarSort::Int => Flags::INT_VARIABLE,
+        VarSort::Float => Flags::FLOAT_VARIABLE,
+        VarSort::Const => Flags::CONST_VARIABLE,
     }
 }
 
-// The bits, and that it is a free region where it is a region.
-fn free_if(sort: ArgSort, bits: u16) -> u16
-    requires { bits ≤ 64 }
-    ensures { result ≡ free sort bits }
+// The flags, and that it is a free region where it is a region.
+fn free_if(sort: ArgSort, flags: Flags) -> Flags
+    requires { flags.bits ≤ 64 }
+    ensures { result.bits ≡ free sort flags.bits }
 {
     match sort {
-        ArgSort::Region => bits + 128,
-        _ => bits,
+        ArgSort::Region => flags.union(Flags::FREE_REGION),
+        _ => flags,
     }
 }
 
-fn flags_of_leaf(leaf: Leaf) -> u16
-    ensures { result ≡ leaf_flags leaf }
+fn flags_of_leaf(leaf: Leaf) -> Flags
+    ensures { result.bits ≡ leaf_flags leaf }
 {
     match leaf {
         Leaf::Variable(s, _) => flags_of_variable(s),
-        Leaf::RegionVariable(_) => 144,
-        Leaf::Parameter(a, _) => free_if(a, 64),
-        Leaf::LateParameter(_) => 192,
-        Leaf::Placeholder(a, _, _) => free_if(a, 32),
-        Leaf::Error(a) => free_if(a, 0),
-        Leaf::Canonical(_, _) => 512,
-        Leaf::Static => 128,
-        Leaf::Erased => 256,
-        Leaf::Bound(_, _, _) | Leaf::Kind(_) => 0,
+        Leaf::RegionVariable(_) => Flags::REGION_VARIABLE.union(Flags::FREE_REGION),
+        Leaf::Parameter(a, _) => free_if(a, Flags::PARAMETER),
+        Leaf::LateParameter(_) => Flags::PARAMETER.union(Flags::FREE_REGION),
+        Leaf::Placeholder(a, _, _) => free_if(a, Flags::PLACEHOLDER),
+        Leaf::Error(a) => free_if(a, Flags::NONE),
+        Leaf::Canonical(_, _) => Flags::CANONICAL,
+        Leaf::Static => Flags::FREE_REGION,
+        Leaf::Erased => Flags::ERASED,
+        Leaf::Bound(_, _, _) | Leaf::Kind(_) => Flags::NONE,
     }
 }
 
@@ -117,15 +117,20 @@ fn reach_of(leaf: Leaf) -> u64
     }
 }
 
+// What is found of no term at all.
+pub const NO_FACTS: Facts = Facts {
+    height: 0,
+    flags: Flags::NONE,
+    outer: 0,
+};
+
 // What is found of a leaf.
 pub fn facts_of_leaf(x: Leaf) -> Facts
     ensures { result ≡ facts (leaf x) }
 {
     Facts {
         height: 1,
-        flags: Flags {
-            bits: flags_of_leaf(x),
-        },
+        flags: flags_of_leaf(x),
         outer: reach_of(x),
     }
 }

@@ -1,5 +1,6 @@
 // An entry.
-use theory::{Facts, Flags, Leaf, Node, VarSort};
+use crate::forms::NO_FACTS;
+use theory::{Facts, Leaf, Node, VarSort};
 
 // What a store keeps of a term. A caller lends a slice of these, all vacant or left from an earlier store.
 #[derive(Clone, Copy)]
@@ -19,10 +20,6 @@ impl Entry {
         first: 0,
         hash: 0,
         next: 0,
-        facts: Facts {
-            height: 0,
-            flags: Flags { bits: 0 },
-            outer: 0,
-        },
+        facts: NO_FACTS,
     };
 }

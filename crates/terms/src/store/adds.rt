@@ -8,11 +8,11 @@ ghost use Rattle.terms.specs.Memory.{cell, tree_of};
 ghost use Rattle.terms.specs.Interning.{Proper, Located, Addable, room_for};
 ghost use Rattle.terms.specs.Survey.{Passed};
 
-use crate::forms::{facts_of_leaf, join_facts, least_parts, takes_part, top_facts};
+use crate::forms::{NO_FACTS, facts_of_leaf, join_facts, least_parts, takes_part, top_facts};
 use crate::hash::hash_of;
 use crate::memory::{Entry, seek};
 use crate::store::Store;
-use theory::{Facts, Flags, HIGHEST, Handle, Head, LONGEST, Leaf, Node, StoreFault};
+use theory::{Facts, HIGHEST, Handle, Head, LONGEST, Leaf, Node, StoreFault};
 
 impl Store<'_> {
     // The handle of a form over parts.
@@ -100,11 +100,7 @@ impl Store<'_> {
     fn survey(&self, head: Head, parts: &[Handle]) -> Result<Facts, StoreFault>
         ensures { Passed self.now head parts.now result }
     {
-        let mut all = Facts {
-            height: 0,
-            flags: Flags { bits: 0 },
-            outer: 0,
-        };
+        let mut all = NO_FACTS;
         for (k, part) in parts.iter().enumerate() {
             let e = self.entry(*part)?;
             if !takes_part(head, k, e.node) {
