@@ -1,2 +1,3 @@
 mod Smaller
 mod Tables
+mod Turns

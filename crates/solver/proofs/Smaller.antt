@@ -1,13 +1,14 @@
 -- A part of a term is smaller than the term.
-use Rattle.std.proofs.Common.{◌≡◌, ℕ, zero, suc, ◌+◌, ◌*◌, ◌<◌, ◌≤◌, Bool, true, false, cond, List, [], ◌∷◌, get_or, Ok, Result, refl, ap, arith}
+use Rattle.std.proofs.Common.{◌≡◌, ℕ, zero, suc, ◌+◌, ◌*◌, ◌<◌, ◌≤◌, Bool, true, false, cond, List, [], ◌∷◌, length, get_or, Ok, Result, refl, ap, arith}
 use Rattle.std.proofs.Math.Option.{Option, none, some}
 use Rattle.theory.specs.declared.words.Head.TheVariants.{List as AList}
 use Rattle.theory.specs.declared.words.ListSort.TheVariants.{Arguments}
+use Rattle.theory.specs.declared.words.Node.{Node}
 use Rattle.theory.specs.declared.words.StoreFault.{StoreFault}
 use Rattle.theory.specs.declared.words.StoreFault.TheVariants.{NoSuch, BadPart}
 use Rattle.theory.specs.Outcomes.{◌>>=◌, at, given, test}
-use Rattle.theory.specs.Trees.{Tree, leaf, node, nil, cons, tree?, items, applies, parts}
-use Rattle.theory.specs.Store.{handle, part}
+use Rattle.theory.specs.Trees.{Tree, leaf, node, nil, cons, tree?, items, applies, parts, seen}
+use Rattle.theory.specs.Store.{handle, get, part}
 use Rattle.solver.specs.Sizes.{size, size_at}
 
 item_smaller : (ts : Tree) (k : ℕ) (u : Tree) → at (items ts) k ≡ some u → size u < size ts
@@ -58,3 +59,13 @@ part_smaller m n k p e = by (at m n) refl e
     by : (o : Option Tree) → at m n ≡ o → Ok p ≡ (given o (NoSuch n) >>= λ t. given (at (parts t) k) (BadPart k) >>= λ u. Ok (handle m u)) → size_at m p < size_at m n
     by none a e = cc
     by (some t) a e = inner t (at (parts t) k) a refl e
+
+-- what is read is held
+pub read_held : (m : List Tree) (n : ℕ) (v : Node) → Ok v ≡ get m n → n < length m
+unfolding get
+read_held m n v e = by m n (NoSuch n) e
+  where
+    by : (m : List Tree) (n : ℕ) (f : StoreFault) → Ok v ≡ (given (at m n) f >>= λ t. Ok (seen t)) → n < length m
+    by [] n f e = cc
+    by (t ∷ m) zero f e = omega arith
+    by (t ∷ m) (suc n) f e = omega (arith, by m n f e)

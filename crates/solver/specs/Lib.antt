@@ -5,3 +5,4 @@ pub mod Names
 pub mod Caches
 pub mod Parts
 pub mod Sizes
+pub mod Walks

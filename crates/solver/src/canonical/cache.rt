@@ -5,6 +5,8 @@ ghost use Rattle.solver.specs.Caches.{vacant, kept_in, held};
 use std::alloc::{AllocError, Global};
 use theory::{Handle, MOST_ENTRIES};
 
+// A result with its round, and no Option: a new round forgets all results in one step, where emptying the places at each goal
+// would write 65,535 of them.
 #[derive(Clone, Copy)]
 struct Cached {
     round: u32,

@@ -1,6 +1,9 @@
 // The canonicalizer: names become canonical variables, in walk order, parts before wholes.
-ghost use Rattle.std.specs.Prelude.{◌≡◌, true, IfOk, IfErr};
+ghost use Rattle.std.specs.Prelude.{◌≡◌, ◌+◌, ◌*◌, ◌^◌, ◌<◌, ◌≤◌, true, length, IfOk, IfErr, OnOk};
 ghost use Rattle.solver.specs.Goals.{leaf_variable, known, form_sort};
+ghost use Rattle.terms.specs.Means.{trees};
+ghost use Rattle.solver.specs.Sizes.{size_at};
+ghost use Rattle.solver.specs.Walks.{SameOpen, AllHeld, IsHeld, turns, turns_left, turns_of_size};
 ghost use Rattle.solver.specs.Numbers.{call_number, of_goal};
 
 use crate::canonical::fault::GoalFault;
@@ -59,9 +62,6 @@ const NAMES: Flags = Flags {
         | Flags::ERASED.bits,
 };
 
-// Turns of one walk: each stored term is opened at most once, and each of its parts is visited once.
-const MOST_TURNS: u32 = 16_842_496;
-
 // The walks over the parts of one goal, and the part that is walked.
 #[derive(Drop)]
 struct Canonicalizer<'a, 's> {
@@ -73,7 +73,9 @@ struct Canonicalizer<'a, 's> {
 
 impl Canonicalizer<'_, '_> {
     // A leaf, rewritten. It refuses 4, then 13, then 15, then 2.
-    fn rewrite_leaf(&mut self, term: Handle, leaf: Leaf) -> Result<Handle, GoalFault> {
+    fn rewrite_leaf(&mut self, term: Handle, leaf: Leaf) -> Result<Handle, GoalFault>
+        ensures { SameOpen self.old self.new }
+    {
         let Some(form) = form_in_goal(self.part, leaf) else {
             return Ok(term);
         };
@@ -94,75 +96,86 @@ impl Canonicalizer<'_, '_> {
         }
     }
 
-    // A term that is rewritten waits for the end of the one that it is a part of.
-    fn put_waiting(&mut self, term: Handle) -> Result<(), StoreFault> {
-        put_reserved(&mut self.tables.waiting, term)
-    }
-
     // Begins a term: it is rewritten at once, or opened.
-    fn visit(&mut self, term: Handle) -> Result<(), GoalFault> {
+    fn visit(&mut self, term: Handle) -> Result<(), GoalFault>
+        requires { AllHeld self.old }
+        ensures held { OnOk result (AllHeld self.new) }
+        ensures turns { OnOk result (turns_left self.new ≤ turns_left self.old + 2 ^ 64 * turns_of_size (size_at (trees self.old.store.now) term)) }
+    {
         if let Some(result) = self.tables.cache.get(term) {
-            return Ok(self.put_waiting(result)?);
+            return Ok(put_reserved(&mut self.tables.waiting, result)?);
         }
         match self.store.get(term)? {
             Node::Leaf(leaf) => {
                 let result = self.rewrite_leaf(term, leaf)?;
                 self.tables.cache.put(term, result);
-                Ok(self.put_waiting(result)?)
+                Ok(put_reserved(&mut self.tables.waiting, result)?)
             }
             Node::Over(Head::List(ListSort::Environment), _) if self.part == Part::Value => Err(
                 GoalFault::EnvironmentInValue(term),
             ),
-            Node::Over(head, count) => {
-                if self.is_settled(term, head)? {
-                    return Ok(self.put_waiting(term)?);
-                }
-                let base = self.tables.waiting.len();
-                let open = Open {
-                    term,
-                    head,
-                    places: 0..count,
-                    base,
-                };
-                Ok(put_reserved(&mut self.tables.open, open)?)
-            }
+            Node::Over(head, count) => Ok(self.open_over(term, head, count)?),
         }
     }
 
-    // Ends an open term: it is added over its rewritten parts.
-    fn finish(&mut self, open: Open) -> Result<(), StoreFault> {
-        let result = match self.tables.waiting.as_slice().get(open.base..) {
-            Some(parts) => self.store.add(open.head, parts)?,
-            None => return Err(StoreFault::NoSuch(open.term)),
+    // Opens a term over parts, or leaves it as it is.
+    fn open_over(&mut self, term: Handle, head: Head, count: usize) -> Result<(), StoreFault>
+        requires held { AllHeld self.old }
+        requires own { term < length (trees self.old.store.now) }
+        ensures held { OnOk result (AllHeld self.new) }
+        ensures turns { OnOk result (turns_left self.new ≤ turns_left self.old + 2 ^ 64 * turns_of_size (size_at (trees self.old.store.now) term)) }
+    {
+        if self.is_settled(term, head)? {
+            return put_reserved(&mut self.tables.waiting, term);
+        }
+        let base = self.tables.waiting.len();
+        let opened = Open {
+            term,
+            head,
+            places: 0..count,
+            base,
         };
-        self.tables.waiting.truncate(open.base);
-        self.tables.cache.put(open.term, result);
-        self.put_waiting(result)
+        put_reserved(&mut self.tables.opened, opened)
+    }
+
+    // Ends an open term: it is added over its rewritten parts.
+    fn finish(&mut self, ended: Open) -> Result<(), StoreFault>
+        ensures { SameOpen self.old self.new }
+    {
+        let result = match self.tables.waiting.as_slice().get(ended.base..) {
+            Some(parts) => self.store.add(ended.head, parts)?,
+            None => return Err(StoreFault::NoSuch(ended.term)),
+        };
+        self.tables.waiting.truncate(ended.base);
+        self.tables.cache.put(ended.term, result);
+        put_reserved(&mut self.tables.waiting, result)
     }
 
     // One turn of a walk: the innermost open term goes on to its next part, or ends.
-    fn turn(&mut self, mut open: Open) -> Result<(), GoalFault> {
-        let Some(place) = open.places.next() else {
-            return Ok(self.finish(open)?);
+    fn turn(&mut self, mut innermost: Open) -> Result<(), GoalFault>
+        requires held { AllHeld self.old }
+        requires own { IsHeld (trees self.old.store.now) innermost }
+        ensures held { OnOk result (AllHeld self.new) }
+        ensures turns { OnOk result (turns_left self.new < turns_left self.old + turns (trees self.old.store.now) innermost) }
+    {
+        let Some(place) = innermost.places.next() else {
+            return Ok(self.finish(innermost)?);
         };
-        let part = self.store.part(open.term, place)?;
-        put_reserved(&mut self.tables.open, open)?;
+        let part = self.store.part(innermost.term, place)?;
+        put_reserved(&mut self.tables.opened, innermost)?;
         self.visit(part)
     }
 
     // Rewrites one part of a goal.
     fn rewrite(&mut self, part: Part, root: Handle) -> Result<Handle, GoalFault> {
         self.part = part;
-        self.tables.open.clear();
+        self.tables.opened.clear();
         self.tables.waiting.clear();
         self.visit(root)?;
-        for _ in 0..MOST_TURNS {
-            let Some(open) = self.tables.open.pop() else {
-                return Ok(self.tables.waiting.pop().ok_or(StoreFault::NoSuch(root))?);
-            };
+        while let Some(open) = self.tables.opened.pop() {
             self.turn(open)?;
         }
-        Err(GoalFault::Store(StoreFault::TooHigh))
+        Ok(self.tables.waiting.pop().ok_or(StoreFault::NoSuch(root))?)
     }
 
     // Rewrites the environment, the value and the opaque pairs. Static stays in the environment alone, so that its results

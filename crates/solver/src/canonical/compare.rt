@@ -45,12 +45,11 @@ fn differing_parts(
     ensures apart { IfOk result (λ found. IfSome found (λ p. p.0 ≢ p.1)) }
     ensures smaller { IfOk result (λ found. IfSome found (λ p. size_at (trees store.now) p.0 < size_at (trees store.now) a)) }
 {
-    let count = match (store.get(a)?, store.get(b)?) {
-        (Node::Over(head, count), Node::Over(other, others)) if head == other && count == others =>
-            count,
-        _ => return Ok(None),
-    };
-    for place in 0..count {
+    let node = store.get(a)?;
+    if node != store.get(b)? {
+        return Ok(None);
+    }
+    for place in 0..node.count() {
         let x = store.part(a, place)?;
         let y = store.part(b, place)?;
         if x != y {

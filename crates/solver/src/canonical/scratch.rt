@@ -27,7 +27,7 @@ pub struct Open {
 #[derive(Drop)]
 pub struct Scratch {
     pub(super) cache: Cache,
-    pub(super) open: Vec<Open>,
+    pub(super) opened: Vec<Open>,
     pub(super) waiting: Vec<Handle>,
     pub(super) names: Names,
 }
@@ -35,12 +35,12 @@ pub struct Scratch {
 impl Scratch {
     pub fn new(heap: Global) -> Result<Scratch, AllocError> {
         let cache = Cache::new(heap)?;
-        let open = Vec::with_capacity(heap, MOST_OPEN)?;
+        let opened = Vec::with_capacity(heap, MOST_OPEN)?;
         let waiting = Vec::with_capacity(heap, MOST_WAITING)?;
         let names = Names::new(heap)?;
         Ok(Scratch {
             cache,
-            open,
+            opened,
             waiting,
             names,
         })
