@@ -10,7 +10,6 @@ use Rattle.solver.specs.declared.canonical.scratch.Open.{Open}
 use Rattle.solver.specs.Sizes.{size, size_at}
 use Rattle.solver.specs.declared.canonical.canonicalizer.Canonicalizer.{Canonicalizer}
 use Rattle.solver.specs.Walks.{opens, SameOpen, IsHeld, AllHeld, turns, turns_left, turns_of_size}
-use Rattle.terms.specs.Means.{means, trees}
 
 module _ (c d : Contents) (g : Grown c d) where
   pub no_fewer : length c.trees ≤ length d.trees
@@ -30,7 +29,7 @@ module _ (c d : Contents) (g : Grown c d) where
       omega (arith, own, rest, sum_by-cons (turns d.trees) o os, sum_by-cons (turns c.trees) o os)
 
 pub same_turns : (a b : Canonicalizer) → SameOpen a b → AllHeld a → turns_left b ≡ turns_left a
-same_turns a b s held = ap (sum_by (turns (trees b.store.now))) s.opened ∙ turns_stay (means a.store.now) (means b.store.now) s.grown (opens a) held
+same_turns a b s held = ap (sum_by (turns b.store.now.trees)) s.opened ∙ turns_stay a.store.now b.store.now s.grown (opens a) held
 
 pub some_turns : (n : ℕ) → 0 < turns_of_size n
 some_turns n = omega (arith, one-le-pow n (2 ^ 64 + 1) (omega arith))

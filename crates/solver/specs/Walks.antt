@@ -2,7 +2,6 @@
 use Rattle.std.specs.Prelude.{◌≡◌, ℕ, ◌+◌, ◌-◌, ◌*◌, ◌^◌, ◌<◌, List, length, All, sum_by}
 use Rattle.theory.specs.Trees.{Tree}
 use Rattle.theory.specs.Store.{Grown}
-use Rattle.terms.specs.Means.{means, trees}
 use Rattle.solver.specs.declared.canonical.scratch.Open.{Open}
 use Rattle.solver.specs.declared.canonical.canonicalizer.Canonicalizer.{Canonicalizer}
 use Rattle.solver.specs.Sizes.{size_at}
@@ -13,7 +12,7 @@ opens c = c.tables.now.opened.items
 
 -- terms may have been added, and none was opened or ended
 pub record SameOpen (old new : Canonicalizer) : Type 0 where
-  pub grown : Grown (means old.store.now) (means new.store.now)
+  pub grown : Grown old.store.now new.store.now
   pub opened : opens new ≡ opens old
 
 -- more than the turns of a term that has as many parts as a number of places can count, each of the size before
@@ -25,10 +24,10 @@ abbrev pub turns : List Tree → Open → ℕ
 turns m o = (o.places.end - o.places.start + 1) * turns_of_size (size_at m o.term)
 
 abbrev pub turns_left : Canonicalizer → ℕ
-turns_left c = sum_by (turns (trees c.store.now)) (opens c)
+turns_left c = sum_by (turns c.store.now.trees) (opens c)
 
 abbrev pub IsHeld : List Tree → Open → Type 0
 IsHeld m o = o.term < length m
 
 abbrev pub AllHeld : Canonicalizer → Type 0
-AllHeld c = All (IsHeld (trees c.store.now)) (opens c)
+AllHeld c = All (IsHeld c.store.now.trees) (opens c)

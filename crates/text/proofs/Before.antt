@@ -8,18 +8,17 @@ use Rattle.theory.specs.Trees.{Tree, leaf, node, nil, cons, parts, seen}
 use Rattle.theory.specs.Store.{found, handle, part}
 use Rattle.theory.proofs.Steps.{bind_ok, given_ok, none_some, ok_one}
 use Rattle.terms.specs.declared.store.Store.{Store}
-use Rattle.terms.specs.Means.{trees}
 use Rattle.terms.proofs.Places.{at_some, below_at, trees-at}
 use Rattle.terms.proofs.Formed.{OverParts, over_parts}
 
 module _ (s : Store) (n k : ℕ) where
-  handle_before : (t : Tree) → n < length (trees s) → get_or (trees s) n nil ≡ t → (u : Tree) → at (parts t) k ≡ some u → handle (trees s) u < n
+  handle_before : (t : Tree) → n < length s.trees → get_or s.trees n nil ≡ t → (u : Tree) → at (parts t) k ≡ some u → handle s.trees u < n
   handle_before (leaf x) l is u e = none_some u e
   handle_before nil l is u e = none_some u e
   handle_before (cons t v) l is u e = none_some u e
   handle_before (node h ts) l is u e =
-      let m = trees s in
-      let o : OverParts (trees s) n h = over_parts s n l h (length (parts (node h ts))) (ap seen is) in
+      let m = s.trees in
+      let o : OverParts s.trees n h = over_parts s n l h (length (parts (node h ts))) (ap seen is) in
       let here = at_some (trees-at m o.handles) k u (ap (λ us. at us k) (sym o.parts_are ∙ ap parts is) ∙ e) in
       let inside : k < length o.handles = omega (arith, here.0, length-map o.handles (λ i. get_or m i nil)) in
       let low : get_or o.handles k 0 < n = below_at n o.handles k o.before inside in
@@ -28,10 +27,10 @@ module _ (s : Store) (n k : ℕ) where
       in
       omega (arith, own, low)
 
-  pub part_before : (p : ℕ) → Ok p ≡ part (trees s) n k → p < n
+  pub part_before : (p : ℕ) → Ok p ≡ part s.trees n k → p < n
   unfolding part
   part_before p e =
-      let m = trees s in
+      let m = s.trees in
       let whole = bind_ok (found m n) (λ t. given (at (parts t) k) (BadPart k) >>= λ u. Ok (handle m u)) p (sym e) in
       let t = whole.0 in
       let held = at_some m n t (given_ok (at m n) (NoSuch n) t whole.1) in

@@ -1,7 +1,6 @@
 // The canonicalizer: names become canonical variables, in walk order, parts before wholes.
 ghost use Rattle.std.specs.Prelude.{◌≡◌, ◌+◌, ◌*◌, ◌^◌, ◌<◌, ◌≤◌, true, length, IfOk, IfErr, OnOk};
 ghost use Rattle.solver.specs.Goals.{leaf_variable, known, form_sort};
-ghost use Rattle.terms.specs.Means.{trees};
 ghost use Rattle.solver.specs.Sizes.{size_at};
 ghost use Rattle.solver.specs.Walks.{SameOpen, AllHeld, IsHeld, turns, turns_left, turns_of_size};
 ghost use Rattle.solver.specs.Numbers.{call_number, of_goal};
@@ -100,7 +99,7 @@ impl Canonicalizer<'_, '_> {
     fn visit(&mut self, term: Handle) -> Result<(), GoalFault>
         requires { AllHeld self.old }
         ensures held { OnOk result (AllHeld self.new) }
-        ensures turns { OnOk result (turns_left self.new ≤ turns_left self.old + 2 ^ 64 * turns_of_size (size_at (trees self.old.store.now) term)) }
+        ensures turns { OnOk result (turns_left self.new ≤ turns_left self.old + 2 ^ 64 * turns_of_size (size_at self.old.store.now.trees term)) }
     {
         if let Some(result) = self.tables.cache.get(term) {
             return Ok(put_reserved(&mut self.tables.waiting, result)?);
@@ -121,9 +120,9 @@ impl Canonicalizer<'_, '_> {
     // Opens a term over parts, or leaves it as it is.
     fn open_over(&mut self, term: Handle, head: Head, count: usize) -> Result<(), StoreFault>
         requires held { AllHeld self.old }
-        requires own { term < length (trees self.old.store.now) }
+        requires own { term < length self.old.store.now.trees }
         ensures held { OnOk result (AllHeld self.new) }
-        ensures turns { OnOk result (turns_left self.new ≤ turns_left self.old + 2 ^ 64 * turns_of_size (size_at (trees self.old.store.now) term)) }
+        ensures turns { OnOk result (turns_left self.new ≤ turns_left self.old + 2 ^ 64 * turns_of_size (size_at self.old.store.now.trees term)) }
     {
         if self.is_settled(term, head)? {
             return put_reserved(&mut self.tables.waiting, term);
@@ -154,9 +153,9 @@ impl Canonicalizer<'_, '_> {
     // One turn of a walk: the innermost open term goes on to its next part, or ends.
     fn turn(&mut self, mut innermost: Open) -> Result<(), GoalFault>
         requires held { AllHeld self.old }
-        requires own { IsHeld (trees self.old.store.now) innermost }
+        requires own { IsHeld self.old.store.now.trees innermost }
         ensures held { OnOk result (AllHeld self.new) }
-        ensures turns { OnOk result (turns_left self.new < turns_left self.old + turns (trees self.old.store.now) innermost) }
+        ensures turns { OnOk result (turns_left self.new < turns_left self.old + turns self.old.store.now.trees innermost) }
     {
         let Some(place) = innermost.places.next() else {
             return Ok(self.finish(innermost)?);

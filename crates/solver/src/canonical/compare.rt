@@ -1,6 +1,5 @@
 // Where two canonical goals first differ.
 ghost use Rattle.std.specs.Prelude.{◌≡◌, ◌≢◌, ◌<◌, not, ◌==◌, find, IfOk, IfSome};
-ghost use Rattle.terms.specs.Means.{trees};
 ghost use Rattle.solver.specs.Sizes.{size_at};
 ghost use Rattle.solver.specs.Parts.{term_in};
 ghost use Rattle.solver.specs.Differences.{OfKinds, Tells, difference_in};
@@ -43,7 +42,7 @@ fn differing_parts(
     b: Handle,
 ) -> Result<Option<(Handle, Handle)>, StoreFault>
     ensures apart { IfOk result (λ found. IfSome found (λ p. p.0 ≢ p.1)) }
-    ensures smaller { IfOk result (λ found. IfSome found (λ p. size_at (trees store.now) p.0 < size_at (trees store.now) a)) }
+    ensures smaller { IfOk result (λ found. IfSome found (λ p. size_at store.now.trees p.0 < size_at store.now.trees a)) }
 {
     let node = store.get(a)?;
     if node != store.get(b)? {

@@ -1,6 +1,5 @@
 -- The two terms in hand differ, and the first gets smaller.
 use Rattle.std.proofs.Common.{◌≢◌}
-use Rattle.terms.specs.Means.{trees}
 use Rattle.solver.specs.Sizes.{size_at}
 use Rattle.solver.proofs.canonical.compare.smallest.Given as goal
 
@@ -8,4 +7,4 @@ abbrev pub invariant-loop-p : goal.invariant-loop-p
 invariant-loop-p l = l.x ≢ l.y
 
 abbrev pub decreases-loop-p : goal.decreases-loop-p
-decreases-loop-p l = size_at (trees l.store) l.x
+decreases-loop-p l = size_at l.store.trees l.x

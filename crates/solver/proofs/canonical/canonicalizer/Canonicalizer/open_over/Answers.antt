@@ -1,7 +1,6 @@
 -- A term that is opened has no more parts than a number of places counts.
 use Rattle.std.proofs.Common.{◌+◌, ◌*◌, ◌^◌, ◌≤◌, List, sum_by, refl, sym, subst, arith}
 use Rattle.std.proofs.lemmas.Result.{on_ok_weaker}
-use Rattle.terms.specs.Means.{trees}
 use Rattle.solver.specs.declared.canonical.scratch.Open.{Open}
 use Rattle.solver.specs.Sizes.{size_at}
 use Rattle.solver.specs.Walks.{opens, turns, turns_left, turns_of_size}
@@ -10,7 +9,7 @@ use Rattle.solver.proofs.canonical.canonicalizer.Canonicalizer.open_over.Goals a
 
 pub returns-clause-turns : goal.returns-clause-turns
 returns-clause-turns c =
-    let m = trees c.args.self.now.store.now in
+    let m = c.args.self.now.store.now.trees in
     on_ok_weaker c.put_reserved-2.result
     (λ e.
     subst (λ (os : List Open). sum_by (turns m) os ≤ turns_left c.args.self.now + 2 ^ 64 * turns_of_size (size_at m c.args.term)) (sym e)

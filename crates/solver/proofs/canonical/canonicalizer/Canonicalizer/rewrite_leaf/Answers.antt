@@ -1,13 +1,12 @@
 -- Adding only grows the store.
 use Rattle.std.proofs.Common.{refl, ap}
-use Rattle.terms.specs.Means.{means}
 use Rattle.theory.proofs.Growth.{grown-leaf}
 use Rattle.solver.proofs.canonical.canonicalizer.Canonicalizer.rewrite_leaf.Goals as goal
 
 pub returns-in_err-add_leaf : goal.returns-in_err-add_leaf
 returns-in_err-add_leaf c =
-    record { grown = rw (ap (λ p. p.1) c.add_leaf.ensures) (grown-leaf (means c.args.self.now.store.now) _); opened = refl }
+    record { grown = rw (ap (λ p. p.1) c.add_leaf.ensures) (grown-leaf c.args.self.now.store.now _); opened = refl }
 
 pub returns : goal.returns
 returns c =
-    record { grown = rw (ap (λ p. p.1) c.add_leaf.ensures) (grown-leaf (means c.args.self.now.store.now) _); opened = refl }
+    record { grown = rw (ap (λ p. p.1) c.add_leaf.ensures) (grown-leaf c.args.self.now.store.now _); opened = refl }

@@ -2,7 +2,6 @@
 use Rattle.std.proofs.Common.{rules, ◌≡◌, ◌+◌, ◌<◌, sum_by, ap, ◌∙◌, arith}
 use Rattle.std.proofs.lemmas.Result.{on_ok_weaker}
 use Rattle.std.proofs.lemmas.List.Sums.{sum_by_push}
-use Rattle.terms.specs.Means.{trees}
 use Rattle.solver.specs.Walks.{opens, turns}
 use Rattle.solver.proofs.Smaller.{part_smaller}
 use Rattle.solver.proofs.Turns.{same_turns, last_turn, next_turn}
@@ -11,11 +10,11 @@ use Rattle.solver.proofs.canonical.canonicalizer.Canonicalizer.turn.Goals as goa
 pub returns-in_default-clause-turns : goal.returns-in_default-clause-turns
 returns-in_default-clause-turns c =
     let same = same_turns c.args.self.now c.finish.new.self c.finish.ensures c.requires.held in
-    omega (arith, same, last_turn (trees c.args.self.now.store.now) c.args.innermost)
+    omega (arith, same, last_turn c.args.self.now.store.now.trees c.args.innermost)
 
 pub returns-clause-turns : goal.returns-clause-turns
 returns-clause-turns c =
-    let m = trees c.args.self.now.store.now in
+    let m = c.args.self.now.store.now.trees in
     let o = c.args.innermost in
     let pushed = ap (sum_by (turns m)) c.in_ok-put_reserved.ensures.ok ∙ sum_by_push (turns m) (opens c.args.self.now) _ in
     let left : o.places.start < o.places.end = search rules in

@@ -1,6 +1,5 @@
 -- A leaf leaves the open terms as they are; what is read is held.
 use Rattle.std.proofs.Common.{arith}
-use Rattle.terms.specs.Means.{trees}
 use Rattle.solver.proofs.Smaller.{read_held}
 use Rattle.solver.proofs.Turns.{same_turns}
 use Rattle.solver.proofs.canonical.canonicalizer.Canonicalizer.visit.Goals as goal
@@ -10,4 +9,4 @@ returns-in_ok-put_reserved-in-Leaf-clause-turns c =
     omega (arith, same_turns c.args.self.now c.rewrite_leaf.new.self c.rewrite_leaf.ensures c.requires)
 
 pub open_over-requires-clause-own : goal.open_over-requires-clause-own
-open_over-requires-clause-own c = read_held (trees c.args.self.now.store.now) c.args.term _ c.in_ok-leaf.ensures
+open_over-requires-clause-own c = read_held c.args.self.now.store.now.trees c.args.term _ c.in_ok-leaf.ensures
