@@ -35,10 +35,10 @@ impl Printer<'_, '_> {
     // Writes the parts of a term, each after a space.
     #[cycle(print)]
     fn parts(&mut self, term: Handle) -> Result<(), Trouble> {
-        for place in 0..self.store.get(term)?.count() {
-            let part = self.store.part(term, place)?;
+        let store = self.store;
+        for part in store.parts(term)? {
             self.out.push_str(" ")?;
-            self.value(part)?;
+            self.value(*part)?;
         }
         Ok(())
     }

@@ -9,4 +9,4 @@ returns-in_ok-put_reserved-in-Leaf-clause-turns c =
     omega (arith, same_turns c.args.self.now c.rewrite_leaf.new.self c.rewrite_leaf.ensures c.requires)
 
 pub open_over-requires-clause-own : goal.open_over-requires-clause-own
-open_over-requires-clause-own c = read_held c.args.self.now.store.now.trees c.args.term _ c.in_ok-leaf.ensures
+open_over-requires-clause-own c = read_held c.args.self.now.store.now.trees c.args.term _ c.in_ok-leaf.ensures.answer
