@@ -11,19 +11,19 @@ pub fn write_pairing(
     first: Handle,
     second: Handle,
 ) -> Result<(), Trouble> {
-    let count = page.store.get(first)?.count();
-    page.out.push_str(if count == 0 {
+    let store = page.store;
+    let names = store.parts(first)?;
+    let partners = store.parts(second)?;
+    page.out.push_str(if names.is_empty() {
         "same: no names"
     } else {
         "same:"
     })?;
-    for place in 0..count {
-        let name = page.store.part(first, place)?;
-        let partner = page.store.part(second, place)?;
+    for (place, (name, partner)) in names.iter().zip(partners).enumerate() {
         page.out.push_str(if place == 0 { " " } else { ", " })?;
-        page.value(name)?;
+        page.value(*name)?;
         page.out.push_str(" ~ ")?;
-        page.value(partner)?;
+        page.value(*partner)?;
     }
     Ok(())
 }

@@ -1,5 +1,9 @@
 -- A part of a term is smaller than the term.
-use Rattle.std.proofs.Common.{◌≡◌, ℕ, zero, suc, ◌+◌, ◌*◌, ◌<◌, ◌≤◌, Bool, true, false, cond, List, [], ◌∷◌, length, get_or, Ok, Result, refl, ap, arith}
+use Rattle.std.proofs.Common.{◌≡◌, ℕ, zero, suc, ◌+◌, ◌*◌, ◌<◌, ◌≤◌, Bool, true, false, cond, List, [], ◌∷◌, map, length, get_or, Ok, Result, sym, refl, ap, ◌∙◌, arith}
+use Rattle.std.specs.Prelude.{ok_or}
+use Rattle.std.specs.List.{slice_get}
+use Rattle.std.proofs.lemmas.List.{length-map}
+use Rattle.std.proofs.lemmas.Option.{slice_get-get_or}
 use Rattle.std.proofs.Math.Option.{Option, none, some}
 use Rattle.theory.specs.declared.words.Head.TheVariants.{List as AList}
 use Rattle.theory.specs.declared.words.ListSort.TheVariants.{Arguments}
@@ -8,7 +12,12 @@ use Rattle.theory.specs.declared.words.StoreFault.{StoreFault}
 use Rattle.theory.specs.declared.words.StoreFault.TheVariants.{NoSuch, BadPart}
 use Rattle.theory.specs.Outcomes.{◌>>=◌, at, given, test}
 use Rattle.theory.specs.Trees.{Tree, leaf, node, nil, cons, tree?, items, applies, parts, seen}
-use Rattle.theory.specs.Store.{handle, get, part}
+use Rattle.theory.specs.Limits.{longest}
+use Rattle.theory.specs.Store.{Contents, found, handle, get, part, parts_at}
+use Rattle.theory.proofs.Steps.{bind_ok, given_ok, ok_one}
+use Rattle.terms.specs.Whole.{IsWhole}
+use Rattle.terms.proofs.Places.{at_some}
+use Rattle.terms.proofs.Reading.{part_of_parts}
 use Rattle.solver.specs.Sizes.{size, size_at}
 
 item_smaller : (ts : Tree) (k : ℕ) (u : Tree) → at (items ts) k ≡ some u → size u < size ts
@@ -69,3 +78,18 @@ read_held m n v e = by m n (NoSuch n) e
     by [] n f e = cc
     by (t ∷ m) zero f e = omega arith
     by (t ∷ m) (suc n) f e = omega (arith, by m n f e)
+
+-- the parts of a term as a list: each is smaller, and there are not too many
+module _ (c : Contents) (n : ℕ) (ps : List ℕ) (e : Ok ps ≡ parts_at c.trees n) where
+  pub element_smaller : (k : ℕ) → k < length ps → size_at c.trees (get_or ps k 0) < size_at c.trees n
+  element_smaller k l =
+      let there : ok_or (slice_get ps k) (BadPart k) ≡ Ok (get_or ps k 0) = rw (slice_get-get_or ps k 0 l) refl in
+      part_smaller c.trees n k (get_or ps k 0) (sym there ∙ part_of_parts c.trees n k ps e)
+
+  pub few_elements : IsWhole c → length ps ≤ longest
+  unfolding parts_at
+  few_elements w =
+      let whole = bind_ok (found c.trees n) (λ t. Ok (map (handle c.trees) (parts t))) ps (sym e) in
+      let held = at_some c.trees n whole.0 (given_ok (at c.trees n) (NoSuch n) whole.0 whole.1) in
+      let own : ps ≡ map (handle c.trees) (parts whole.0) = sym (ok_one (map (handle c.trees) (parts whole.0)) ps whole.2) in
+      omega (arith, ap length own, length-map (parts whole.0) (handle c.trees), ap (λ t. length (parts t)) held.1, (w.low n held.0).1)

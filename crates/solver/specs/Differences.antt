@@ -1,5 +1,5 @@
 -- What the first difference of two canonical goals says.
-use Rattle.std.specs.Prelude.{◌≡◌, ◌≢◌, ℕ, Some, None, Option}
+use Rattle.std.specs.Prelude.{◌≡◌, ◌≢◌, ℕ, ◌<◌, List, length, Some, None, Option, slice_index}
 use Rattle.solver.specs.declared.canonical.CanonicalGoal.{CanonicalGoal}
 use Rattle.solver.specs.declared.canonical.forms.Part.{Part}
 use Rattle.solver.specs.declared.canonical.forms.Part.TheVariants.{Environment, Value as value, Opaques as opaques}
@@ -14,6 +14,10 @@ OfKinds (Kind k x y) = x ≢ y
 OfKinds (Env x y) = ⊥
 OfKinds (Value x y) = ⊥
 OfKinds (Opaques x y) = ⊥
+
+-- a place at which two lists have different elements
+abbrev pub Apart : List ℕ → List ℕ → ℕ → Type 0
+Apart xs ys k = (k < length xs) × (k < length ys) × (slice_index xs k ≢ slice_index ys k)
 
 -- the difference of two terms that stand in a part
 abbrev pub difference_in : Part → ℕ → ℕ → Difference

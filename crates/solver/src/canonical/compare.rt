@@ -1,13 +1,14 @@
 // Where two canonical goals first differ.
-ghost use Rattle.std.specs.Prelude.{◌≡◌, ◌≢◌, ◌<◌, not, ◌==◌, find, IfOk, IfSome};
+ghost use Rattle.std.specs.Prelude.{◌≡◌, ◌≢◌, ◌<◌, ◌≤◌, length, not, ◌==◌, find, IfOk, IfSome};
+ghost use Rattle.theory.specs.Limits.{longest};
 ghost use Rattle.solver.specs.Sizes.{size_at};
 ghost use Rattle.solver.specs.Parts.{term_in};
-ghost use Rattle.solver.specs.Differences.{OfKinds, Tells, difference_in};
+ghost use Rattle.solver.specs.Differences.{Apart, OfKinds, Tells, difference_in};
 
 use crate::canonical::forms::Part;
 use crate::canonical::{CanonicalGoal, Goal};
 use terms::Store;
-use theory::{Handle, Head, LONGEST, ListSort, Node, StoreFault};
+use theory::{Handle, Head, ListSort, Node, StoreFault};
 
 // The first difference: what each has, the first one's first. Of environment, value and opaque pairs it is the two smallest
 // subterms that differ, the first in walk order; where two terms differ in head or in the number of their parts, these two.
@@ -35,6 +36,13 @@ impl Difference {
     }
 }
 
+// The first place at which two lists differ.
+fn first_apart(xs: &[Handle], ys: &[Handle]) -> Option<usize>
+    ensures { IfSome result (Apart xs.now ys.now) }
+{
+    xs.iter().zip(ys).position(|(x, y)| x != y)
+}
+
 // The first two parts that differ, of two terms with one head and as many parts.
 fn differing_parts(
     store: &Store,
@@ -44,18 +52,15 @@ fn differing_parts(
     ensures apart { IfOk result (λ found. IfSome found (λ p. p.0 ≢ p.1)) }
     ensures smaller { IfOk result (λ found. IfSome found (λ p. size_at store.now.trees p.0 < size_at store.now.trees a)) }
 {
-    let node = store.get(a)?;
-    if node != store.get(b)? {
+    if store.get(a)? != store.get(b)? {
         return Ok(None);
     }
-    for place in 0..node.count() {
-        let x = store.part(a, place)?;
-        let y = store.part(b, place)?;
-        if x != y {
-            return Ok(Some((x, y)));
-        }
+    let xs = store.parts(a)?;
+    let ys = store.parts(b)?;
+    match first_apart(xs, ys) {
+        Some(place) => Ok(Some((xs[place], ys[place]))),
+        None => Ok(None),
     }
-    Ok(None)
 }
 
 // Of two terms that differ, the two smallest subterms that do, the first in walk order.
@@ -71,12 +76,15 @@ fn smallest(store: &Store, a: Handle, b: Handle) -> Result<(Handle, Handle), Sto
     Ok((x, y))
 }
 
-// How many names a list of kinds has; refuses 1 for what is no such list.
-fn names(store: &Store, kinds: Handle) -> Result<u32, StoreFault> {
-    match store.get(kinds)? {
-        Node::Over(Head::List(ListSort::Kinds), count) if count <= LONGEST => Ok(count as u32),
-        _ => Err(StoreFault::NoSuch(kinds)),
-    }
+// The kinds of a list of kinds; refuses 1 for what is no such list.
+fn kinds_of<'s>(store: &'s Store<'_>, list: Handle) -> Result<&'s [Handle], StoreFault>
+    ensures { IfOk result (λ kinds. length kinds.now ≤ longest) }
+{
+    let Node::Over(Head::List(ListSort::Kinds), _) = store.get(list)? else {
+        return Err(StoreFault::NoSuch(list));
+    };
+    let kinds = store.parts(list)?;
+    Ok(kinds)
 }
 
 // The first difference of two lists of kinds that differ: the first kind that does, of lists of one length. Such lists have
@@ -84,18 +92,14 @@ fn names(store: &Store, kinds: Handle) -> Result<u32, StoreFault> {
 fn compare_kinds(store: &Store, a: Handle, b: Handle) -> Result<Difference, StoreFault>
     ensures { IfOk result OfKinds }
 {
-    let count = names(store, a)?;
-    let other = names(store, b)?;
-    if count == other {
-        for number in 0..count {
-            let x = store.part(a, number as usize)?;
-            let y = store.part(b, number as usize)?;
-            if x != y {
-                return Ok(Difference::Kind(number, x, y));
-            }
+    let first = kinds_of(store, a)?;
+    let second = kinds_of(store, b)?;
+    if first.len() == second.len() {
+        if let Some(name) = first_apart(first, second) {
+            return Ok(Difference::Kind(name as u32, first[name], second[name]));
         }
     }
-    Ok(Difference::NameCount(count, other))
+    Ok(Difference::NameCount(first.len() as u32, second.len() as u32))
 }
 
 // The first of the parts in which two goals have different terms.
