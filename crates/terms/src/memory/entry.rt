@@ -1,4 +1,7 @@
 // An entry.
+ghost use Rattle.std.specs.Prelude.{◌≡◌};
+
+use maps::Linked;
 use theory::{Facts, Flags, Leaf, Node, VarSort};
 
 // What a store keeps of a term. A caller lends a slice of these, all vacant or left from an earlier store.
@@ -25,4 +28,18 @@ impl Entry {
             outer: 0,
         },
     };
+}
+
+impl Linked for Entry {
+    ghost hash_of = { λ e. e.hash };
+
+    ghost next_of = { λ e. e.next };
+
+    fn hash(&self) -> u32 {
+        self.hash
+    }
+
+    fn next(&self) -> u32 {
+        self.next
+    }
 }
