@@ -1,6 +1,4 @@
 // An entry.
-ghost use Rattle.std.specs.Prelude.{◌≡◌};
-
 use maps::Linked;
 use theory::{Facts, Flags, Leaf, Node, VarSort};
 
