@@ -26,7 +26,7 @@ fn place_of(link: u32) -> Option<usize>
 }
 
 // The bucket, of so many, of an entry with this hash.
-pub(crate) fn bucket_of(hash: u32, buckets: usize) -> usize
+pub fn bucket_of(hash: u32, buckets: usize) -> usize
     requires { 0 < buckets }
     ensures { result ≡ hash % buckets }
 {

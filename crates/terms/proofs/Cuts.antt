@@ -1,16 +1,16 @@
 -- What stands true of a store's memory stands after its last entry is taken away.
-use Rattle.std.proofs.Common.{◌≡◌, ℕ, zero, suc, ◌+◌, ◌<◌, ◌≤◌, true, List, [], ◌∷◌, ◌++◌, length, get_or, take, drop, set, sym, ap, ◌∙◌, subst, arith}
-use Rattle.std.proofs.lemmas.List.{length-append, length-take-le, length-set, length-map, get_or-take, take-take, take-map, take-append-drop, take_more}
+use Rattle.std.proofs.Common.{◌≡◌, ℕ, zero, suc, ◌+◌, ◌%◌, ◌<◌, ◌≤◌, true, List, [], ◌∷◌, ◌++◌, map, length, get_or, take, drop, set, sym, ap, ◌∙◌, subst, arith}
+use Rattle.std.proofs.lemmas.List.{length-append, length-take-le, length-map, get_or-take, take-take, take-map, take-append-drop, take_more, take_all}
 use Rattle.theory.specs.Trees.{Tree, nil, parts, height, flags, outer}
 use Rattle.theory.specs.Store.{handle, OneHandle, used}
 use Rattle.terms.specs.declared.memory.entry.Entry.{Entry}
 use Rattle.terms.specs.Hash.{hashed}
 use Rattle.terms.specs.Memory.{Cell, cell_of, vacant, tree_of, grown, held, Within, fits, handles_at}
 use Rattle.theory.specs.Trees.{part_count as count}
-use Rattle.terms.specs.Chains.{bucket, Nexts}
 use Rattle.terms.proofs.Places.{handle-front}
 use Rattle.terms.proofs.Cells.{cells, cell_more, cells_more, grown-front, length-held, own_proper, own_tree}
-use Rattle.terms.proofs.Links.{heads_cut, nexts_cut}
+use Rattle.maps.specs.Chains.{Chained}
+use Rattle.maps.proofs.Links.{chained_pop}
 use Rattle.terms.specs.Means.{Sound}
 use Rattle.terms.proofs.Stands.{parts_many, used-push}
 
@@ -94,11 +94,16 @@ module _ (pool : List ℕ) (es : List Entry) (hd : List ℕ) (s : Sound pool es 
   each : (P : ℕ → Type 0) → ((i : ℕ) → i < n → P i) → (i : ℕ) → i < length (take n es) → P i
   each P olds i l = olds i (omega (arith, fewer))
 
-  pub sound_cut : bucket es (length hd) n < length hd → Sound (take (get_or es n vacant).first pool) (take n es) (set hd (bucket es (length hd) n) (get_or es n vacant).next)
+  -- the last entry goes
+  split : es ≡ take n es ++ get_or es n vacant ∷ []
+  split = sym (take_all (n + 1) es (omega arith)) ∙ take_more es n vacant inside
+
+  pub sound_cut : (get_or es n vacant).hash % length hd < length hd → Sound (take (get_or es n vacant).first pool) (take n es) (set hd ((get_or es n vacant).hash % length hd) (get_or es n vacant).next)
   sound_cut room =
       record {
-        firsts = heads_cut es n (omega arith) hd last room s.others s.firsts;
-        others = subst (λ k. Nexts (take n es) k) (sym (length-set hd (bucket es (length hd) n) (get_or es n vacant).next)) (nexts_cut es n (omega arith) (length hd) s.others);
+        chained =
+            chained_pop (λ x. x.hash) (λ x. x.next) (take n es) (get_or es n vacant) hd room
+            (subst (λ xs. Chained (map (λ (x : Entry). x.hash) xs) (map (λ (x : Entry). x.next) xs) hd) split s.chained);
         kept =
             each (λ i. Within (take f pool) (get_or (take n es) i vacant) × ((get_or (take n es) i vacant).hash ≡ hashed (get_or (take n es) i vacant).node (handles_at (take f pool) (take n es) i)))
             (λ i l. (

@@ -1,16 +1,19 @@
 -- What putting a tree answers, from what a search for its cell found.
-use Rattle.std.proofs.Common.{◌≡◌, ℕ, ◌<◌, ◌≤◌, true, false, ltb, length, get_or, Some, None, Ok, Err, Option, sym, refl, ap, ◌∙◌, arith}
-use Rattle.std.proofs.lemmas.Bool.{lt-ltb, le-ltb, both_ways}
+use Rattle.std.proofs.Common.{◌≡◌, ◌↔◌, ℕ, ◌<◌, ◌≤◌, Bool, true, false, IsTrue, ltb, length, get_or, Some, None, Ok, Err, Option, sym, refl, ap, ◌∙◌, subst, arith}
+use Rattle.std.proofs.lemmas.Bool.{lt-ltb, le-ltb, both_ways, true≢false}
+use Rattle.std.proofs.lemmas.Option.{slice_get_within, slice_get-get_or, get_or_from_slice_get}
 use Rattle.theory.specs.declared.words.StoreFault.TheVariants.{Full, TooHigh, TooLong}
-use Rattle.theory.specs.Limits.{highest, longest}
+use Rattle.theory.specs.Limits.{highest, longest, most_entries}
 use Rattle.theory.specs.Outcomes.{answered}
 use Rattle.theory.specs.Trees.{Tree, nil, parts, height}
 use Rattle.theory.specs.Store.{Contents, handle, holds, has_room, with_tree, put}
 use Rattle.terms.specs.declared.store.Store.TheInside.{Inside}
-use Rattle.terms.specs.Memory.{Cell, tree_of}
-use Rattle.terms.specs.Chains.{IsAt, Sought}
+use Rattle.maps.specs.Chains.{Sought}
+use Rattle.terms.specs.declared.memory.entry.Entry.{Entry}
+use Rattle.terms.specs.Hash.{hashed}
+use Rattle.terms.specs.Memory.{Cell, cell_of, vacant, IsAt, tree_of}
 use Rattle.terms.specs.Interning.{Proper, Located, room_for}
-use Rattle.terms.specs.Means.{pool_of, entries_of, trees_of, IsIntact}
+use Rattle.terms.specs.Means.{pool_of, entries_of, trees_of, means, IsIntact}
 use Rattle.terms.proofs.Cells.{length-held, own_tree}
 use Rattle.terms.proofs.Stands.{not_held, parts_many}
 
@@ -28,17 +31,39 @@ module _ (s : Inside) (w : IsIntact s) (c : Cell) (proper : Proper (trees_of s) 
       let is : get_or m i nil ≡ t = own_tree (pool_of s) (entries_of s) w.sound.kept w.sound.fitted i h.0 ∙ ap (tree_of m) h.1 in
       (l, ap (handle m) (sym is) ∙ w.sound.sole i l)
 
-  pub located : (o : Option ℕ) → Sought (pool_of s) (entries_of s) c o → Located (trees_of s) (tree_of (trees_of s) c) o
-  located (Some i) h =
-      let own = own_handle i h in
+  -- by the cell's hash, and a test that tells whether an entry has the cell
+  found_cell : (Says : Entry → Bool → Type 0) → ((e : Entry) (b : Bool) → Says e b → IsTrue b ↔ (cell_of (pool_of s) e ≡ c)) → (h : ℕ) → h ≡ hashed c.form c.handles → (o : Option ℕ) → Sought (λ (e : Entry). e.hash) Says h (entries_of s) o → Located (trees_of s) (tree_of (trees_of s) c) o
+  found_cell Says tells h is (Some i) f =
+      let e = f.found.0 in
+      let at : get_or (entries_of s) i vacant ≡ e = get_or_from_slice_get (entries_of s) i e vacant f.found.1 in
+      let own = own_handle i (slice_get_within (entries_of s) i e f.found.1, ap (cell_of (pool_of s)) at ∙ (tells e true f.found.3).0 refl) in
       (lt-ltb (handle (trees_of s) t) (length (trees_of s)) (omega (arith, own.0, own.1)), own.1)
-  located None fresh = le-ltb (handle (trees_of s) t) (length (trees_of s)) (not_held (pool_of s) (entries_of s) _ w.sound c proper fresh)
+  found_cell Says tells h is None f =
+      le-ltb (handle (trees_of s) t) (length (trees_of s))
+      (not_held (pool_of s) (entries_of s) _ w.sound c proper
+      (λ k l own.
+      let e = get_or (entries_of s) k vacant in
+      let hash = (w.sound.kept k l).1 ∙ ap (λ (d : Cell). hashed d.form d.handles) own ∙ sym is in
+      let no = f.passed k e tt (slice_get-get_or (entries_of s) k vacant l) hash in
+      true≢false (sym ((tells e false no).1 own))))
 
   -- where the tree is not held, no entry has the cell
   pub not_at : holds (trees_of s) (tree_of (trees_of s) c) ≡ false → (k : ℕ) → k < length (entries_of s) → IsAt (pool_of s) (entries_of s) c k → ⊥
   not_at missing k l e =
       let own = own_handle k (l, e) in
       both_ways (holds (trees_of s) t) missing (lt-ltb (handle (trees_of s) t) (length (trees_of s)) (omega (arith, own.0, own.1)))
+
+module _ (s : Inside) (w : IsIntact s) (Says : Entry → Bool → Type 0) (h : ℕ) where
+  -- by what the store means
+  pub located : (m : Contents) → means s ≡ m → (c : Cell) → Proper m.trees c → ((e : Entry) (b : Bool) → Says e b → IsTrue b ↔ (cell_of (pool_of s) e ≡ c)) → h ≡ hashed c.form c.handles → (o : Option ℕ) → Sought (λ (e : Entry). e.hash) Says h (entries_of s) o → Located m.trees (tree_of m.trees c) o
+  located m means_it c proper tells is o f =
+      subst (λ (n : Contents). Located n.trees (tree_of n.trees c) o) means_it
+      (found_cell s w c (subst (λ (n : Contents). Proper n.trees c) (sym means_it) proper) Says tells h is o f)
+
+  -- what is found stands where a handle can name it
+  pub found_below : (i : ℕ) → Sought (λ (e : Entry). e.hash) Says h (entries_of s) (Some i) → i < most_entries
+  found_below i f =
+      omega (arith, slice_get_within (entries_of s) i f.found.0 f.found.1, length-held (pool_of s) (entries_of s), w.long, w.within, w.few)
 
 -- Putting the tree of a cell
 

@@ -1,9 +1,6 @@
-pub mod Newest
-pub mod Walk
 pub mod Places
 pub mod Fits
 pub mod Cells
-pub mod Links
 pub mod Stands
 pub mod Pushed
 pub mod Reading

@@ -1,7 +1,7 @@
 -- A store after a push: its facts stand, and it means one tree more.
 use Rattle.std.proofs.Common.{◌≡◌, ℕ, ◌+◌, ◌%◌, ◌<◌, ◌≤◌, List, [], ◌∷◌, ◌++◌, length, get_or, take, set, sym, refl, ap, ◌∙◌, subst, arith}
 use Rattle.std.proofs.lemmas.Nat.{mod_below}
-use Rattle.std.proofs.lemmas.List.{length-take-le, length-set, take_more_set}
+use Rattle.std.proofs.lemmas.List.{length-take-le, take_more_set}
 use Rattle.terms.specs.declared.memory.entry.Entry.{Entry}
 use Rattle.terms.specs.declared.store.Store.TheInside.{Inside}
 use Rattle.terms.specs.Hash.{hashed}
@@ -39,7 +39,7 @@ module _ (s : Inside) (w : IsIntact s) (e : Entry) (ns : List ℕ) (a : Addable 
       let b = e.hash % length hd in
       subst (λ k. Sound (pool_of s ++ ns) (entries_of s ++ e ∷ []) (set hd b (k + 1))) (length-entries s w)
       (sound_push (pool_of s) (entries_of s) hd w.sound e ns (first ∙ sym (length_pool s w)) a.proper.all hash a.proper.fit a.is a.low (omega (arith, a.few, a.proper.all))
-      (not_at s w (cell e.node ns) a.proper a.fresh) bucket_in (link ∙ w.sound.firsts b bucket_in) (length-set hd b (length (entries_of s) + 1)))
+      (not_at s w (cell e.node ns) a.proper a.fresh) bucket_in link)
 
   -- the memory after it, of which the items in use are those before and the new parts
   module _ (xs : List ℕ) (items : take (s.used + length ns) xs ≡ pool_of s ++ ns) where

@@ -1,20 +1,19 @@
 -- All that stands true of a store's memory at once; that it rests on the part in use alone; and that it stands after a push.
 use Rattle.std.proofs.Common.{◌≡◌, ℕ, ◌+◌, ◌%◌, ◌<◌, ◌≤◌, true, List, [], ◌∷◌, ◌++◌, length, get_or, take, set, sym, refl, ap, ◌∙◌, subst, ⊎_elim, arith}
-use Rattle.std.proofs.lemmas.Bool.{cases_lt}
+use Rattle.std.proofs.lemmas.Bool.{cases_lt, cases_eq}
 use Rattle.std.proofs.lemmas.List.{length-append, length_push, length-map, get_or_append_left, get_or_push, take-append-le, take_all, drop_at, map_push}
 use Rattle.theory.specs.declared.words.Facts.{Facts}
 use Rattle.theory.specs.Trees.{Tree, nil, parts, height, flags, outer, facts}
 use Rattle.theory.specs.Store.{handle, OneHandle, used}
 use Rattle.terms.specs.declared.memory.entry.Entry.{Entry}
 use Rattle.terms.specs.Hash.{hashed}
-use Rattle.terms.specs.Memory.{Cell, cell, cell_of, vacant, tree_of, grown, held, Within, fits, handles_at, Kept, Placed, Fitted, Known, Deep, Low}
+use Rattle.terms.specs.Memory.{Cell, cell, cell_of, vacant, IsAt, tree_of, grown, held, Within, fits, handles_at, Kept, Placed, Fitted, Known, Deep, Low}
 use Rattle.theory.specs.Trees.{part_count as count}
 use Rattle.terms.specs.Means.{Sound}
-use Rattle.terms.specs.Chains.{newest, on_bucket, Nexts, IsAt}
 use Rattle.terms.proofs.Places.{handle-hit, handle_more, handle_new}
 use Rattle.terms.specs.Interning.{Proper}
 use Rattle.terms.proofs.Cells.{cells, cell_more, cells_more, grown-push, length-held, own_proper, own_tree, same_cell, parts_of}
-use Rattle.terms.proofs.Links.{last_or, heads_push, nexts_push}
+use Rattle.maps.proofs.Links.{chained_push}
 
 -- it rests on the part in use alone
 pub sound_at : (pool pool' : List ℕ) (es es' : List Entry) (hd hd' : List ℕ) → pool ≡ pool' → es ≡ es' → hd ≡ hd' → Sound pool es hd → Sound pool' es' hd'
@@ -79,7 +78,7 @@ module _ (pool : List ℕ) (es : List Entry) (hd : List ℕ) (s : Sound pool es 
   -- what stands of each old entry and of the new one stands of all
   each : (P : ℕ → Type 0) → ((i : ℕ) → i < length es → P i) → P (length es) → (i : ℕ) → i < length (es ++ e ∷ []) → P i
   each P olds last i l =
-      ⊎_elim (λ (z : i ≡ length es). subst P (sym z) last) (λ (z : i < length es). olds i z) (last_or i (length es) (omega (arith, length_push es e)))
+      ⊎_elim (λ (z : i ≡ length es). subst P (sym z) last) (λ (ne : i ≡ length es → ⊥). olds i (omega (arith, length_push es e))) (cases_eq i (length es))
 
   kept' : Kept (pool ++ ns) (es ++ e ∷ [])
   kept' =
@@ -157,21 +156,21 @@ module _ (pool : List ℕ) (es : List Entry) (hd : List ℕ) (s : Sound pool es 
         ap (λ k. handle (m ++ new_tree ∷ []) (get_or (m ++ new_tree ∷ []) k nil)) z
         ∙ ap (handle (m ++ new_tree ∷ [])) (get_or_push m new_tree nil (length m) refl)
         ∙ handle_new m new_tree (not_held pool es hd s (cell e.node ns) proper fresh) ∙ sym z)
-        (λ (z : i < length m).
+        (λ (ne : i ≡ length m → ⊥).
+        let z : i < length m = omega (arith, length_push m new_tree) in
         let own : handle m (get_or m i nil) ≡ i = s.sole i z in
         ap (handle (m ++ new_tree ∷ [])) (get_or_append_left m (new_tree ∷ []) nil i z)
         ∙ handle_more m (new_tree ∷ []) (get_or m i nil) (omega arith) ∙ own)
-        (last_or i (length m) (omega (arith, length_push m new_tree))))
+        (cases_eq i (length m)))
 
     counted' : length (pool ++ ns) ≡ used (held (pool ++ ns) (es ++ e ∷ []))
     counted' =
         omega (arith, length-append pool ns, s.counted, ap used held-push, used-push (held pool es) new_tree, parts_many (held pool es) (cell e.node ns) proper)
 
-    pub sound_push : e.hash % length hd < length hd → e.next ≡ newest (on_bucket es (length hd) (e.hash % length hd)) (length es) → length (set hd (e.hash % length hd) (length es + 1)) ≡ length hd → Sound (pool ++ ns) (es ++ e ∷ []) (set hd (e.hash % length hd) (length es + 1))
-    sound_push room link size =
+    pub sound_push : e.hash % length hd < length hd → e.next ≡ get_or hd (e.hash % length hd) 0 → Sound (pool ++ ns) (es ++ e ∷ []) (set hd (e.hash % length hd) (length es + 1))
+    sound_push room link =
         record {
-          firsts = heads_push es e hd room s.firsts;
-          others = subst (λ k. Nexts (es ++ e ∷ []) k) (sym size) (nexts_push es e (length hd) link s.others);
+          chained = chained_push (λ x. x.hash) (λ x. x.next) es e hd room link s.chained;
           kept = kept';
           placed = placed';
           fitted = fitted';

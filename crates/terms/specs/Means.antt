@@ -1,12 +1,13 @@
 -- What a store means: the trees that its memory holds, and its room; and what stands true of the memory.
-use Rattle.std.specs.Prelude.{◌≡◌, ℕ, ◌*◌, ◌≤◌, min, cond, List, [], length, take, ◌==◌}
+use Rattle.std.specs.Prelude.{◌≡◌, ℕ, ◌*◌, ◌≤◌, min, List, [], map, length, take}
 use Rattle.theory.specs.Limits.{most_entries, most_items}
 use Rattle.theory.specs.Trees.{Tree}
 use Rattle.theory.specs.Store.{Contents, OneHandle, used as parts_held}
+use Rattle.maps.specs.Chains.{Chained}
+use Rattle.maps.specs.Room.{limited}
 use Rattle.terms.specs.declared.memory.entry.Entry.{Entry}
 use Rattle.terms.specs.declared.store.Store.TheInside.{Inside}
 use Rattle.terms.specs.Memory.{held, Kept, Placed, Fitted, Known, Deep, Low}
-use Rattle.terms.specs.Chains.{Heads, Nexts}
 
 -- the items and the entries in use
 abbrev pub pool_of : Inside → List ℕ
@@ -23,8 +24,7 @@ means s = record { trees = trees_of s; entries = s.limit; items = s.room }
 
 -- what stands true of a pool of parts, the entries over it and the buckets that find them
 pub record Sound (pool : List ℕ) (es : List Entry) (hd : List ℕ) : Type 0 where
-  pub firsts : Heads es hd
-  pub others : Nexts es (length hd)
+  pub chained : Chained (map (λ e. e.hash) es) (map (λ e. e.next) es) hd
   pub kept : Kept pool es
   pub placed : Placed pool es
   pub fitted : Fitted pool es
@@ -45,10 +45,6 @@ pub record IsIntact (s : Inside) : Type 0 where
   pub lent_items : s.room ≤ length s.items.now
   pub long : s.len ≡ length (trees_of s)
   pub sound : Sound (pool_of s) (entries_of s) s.buckets.now
-
--- how many entries may be used: none without a bucket to find them by
-abbrev pub limited : ℕ → ℕ → ℕ
-limited entries buckets = cond (buckets == 0) 0 (min entries most_entries)
 
 -- a store that was made over so many entries, buckets and items
 abbrev pub empty : ℕ → ℕ → ℕ → Contents

@@ -35,6 +35,10 @@ vacant =
       facts = record { height = 0; flags = record { bits = 0 }; outer = 0 };
     }
 
+-- the entry at a place has that form over those parts
+abbrev pub IsAt : List ℕ → List Entry → Cell → ℕ → Type 0
+IsAt pool es c k = cell_of pool (slice_index_or es k vacant) ≡ c
+
 -- the tree of a cell over trees
 abbrev pub formed : Node → List Tree → Tree
 formed (ALeaf x) ts = leaf x

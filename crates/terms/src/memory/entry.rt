@@ -1,5 +1,6 @@
 // An entry.
 use crate::forms::NO_FACTS;
+use maps::Linked;
 use theory::{Facts, Leaf, Node, VarSort};
 
 // What a store keeps of a term. A caller lends a slice of these, all vacant or left from an earlier store.
@@ -22,4 +23,18 @@ impl Entry {
         next: 0,
         facts: NO_FACTS,
     };
+}
+
+impl Linked for Entry {
+    ghost hash_of = { λ e. e.hash };
+
+    ghost next_of = { λ e. e.next };
+
+    fn hash(&self) -> u32 {
+        self.hash
+    }
+
+    fn next(&self) -> u32 {
+        self.next
+    }
 }

@@ -10,8 +10,9 @@ ghost use Rattle.terms.specs.Survey.{Passed};
 
 use crate::forms::{NO_FACTS, facts_of_leaf, join_facts, least_parts, takes_part, top_facts};
 use crate::hash::hash_of;
-use crate::memory::{Entry, seek};
+use crate::memory::{Entry, is_entry};
 use crate::store::Store;
+use maps::{bucket_of, seek};
 use theory::{Facts, HIGHEST, Handle, Head, LONGEST, Leaf, Node, StoreFault};
 
 impl Store<'_> {
@@ -21,17 +22,14 @@ impl Store<'_> {
         requires proper { Proper self.now.trees (cell node parts.now) }
         ensures { Located self.now.trees (tree_of self.now.trees (cell node parts.now)) result }
     {
-        if self.buckets.len() == 0 {
+        if self.buckets.is_empty() {
             return None;
         }
-        seek(
-            &self.entries[..self.len],
-            &self.items[..self.used],
-            self.buckets,
-            hash,
-            node,
-            parts,
-        )
+        let items = &self.items[..self.used];
+        let place = seek(&self.entries[..self.len], self.buckets, hash, |e| {
+            is_entry(e, items, node, parts)
+        })?;
+        Some(place as u32)
     }
 
     // Whether there is an entry for one more term, and items for so many parts.
@@ -50,7 +48,7 @@ impl Store<'_> {
     {
         let len = self.len;
         let used = self.used;
-        let b = hash as usize % self.buckets.len();
+        let b = bucket_of(hash, self.buckets.len());
         self.items[used..used + parts.len()].copy_from_slice(parts);
         self.entries[len] = Entry {
             node,

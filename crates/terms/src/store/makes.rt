@@ -1,21 +1,11 @@
 // A store is made over memory that the caller lends.
 ghost use Rattle.std.specs.Prelude.{◌≡◌, length};
-ghost use Rattle.terms.specs.Means.{empty, limited};
+ghost use Rattle.terms.specs.Means.{empty};
 
 use crate::memory::Entry;
 use crate::store::Store;
-use theory::{Handle, MOST_ENTRIES, MOST_ITEMS};
-
-// How many entries may be used: none without a bucket to find them by.
-fn limit_of(entries: usize, buckets: usize) -> usize
-    ensures { result ≡ limited entries buckets }
-{
-    if buckets == 0 {
-        0
-    } else {
-        entries.min(MOST_ENTRIES)
-    }
-}
+use maps::limit_of;
+use theory::{Handle, MOST_ITEMS};
 
 impl<'a> Store<'a> {
     // A store that holds nothing. What the slices held before does not matter.
@@ -26,9 +16,7 @@ impl<'a> Store<'a> {
     ) -> Store<'a>
         ensures { result ≡ empty (length entries.old) (length buckets.old) (length items.old) }
     {
-        for b in buckets.iter_mut() {
-            *b = 0;
-        }
+        buckets.fill(0);
         let limit = limit_of(entries.len(), buckets.len());
         let room = items.len().min(MOST_ITEMS);
         Store {

@@ -1,12 +1,14 @@
-use Rattle.std.proofs.Common.{sym, subst}
-use Rattle.theory.specs.Store.{Contents}
-use Rattle.terms.specs.Memory.{cell}
-use Rattle.terms.specs.Interning.{Proper}
-use Rattle.terms.proofs.Interned.{located}
+use Rattle.std.proofs.Common.{arith, rules}
+use Rattle.terms.proofs.Interned.{located, found_below}
 use Rattle.terms.proofs.store.Store.locate.Goals as goal
 
+pub overflow_cast-result : goal.overflow_cast-result
+overflow_cast-result c = omega (arith, found_below _ c.self.invariant _ _ _ c.in_ok-place.ensures)
+
+pub returns-in_err-place : goal.returns-in_err-place
+returns-in_err-place c =
+    rw c.from_residual.ensures
+    (located _ c.self.invariant _ _ _ c.self.view_is _ c.requires.proper (λ e b says. search rules) c.requires.hash _ c.in_err-place.ensures)
+
 pub returns : goal.returns
-returns c =
-    let k = cell c.args.node c.args.parts.now in
-    let proper = subst (λ (m : Contents). Proper m.trees k) (sym c.self.view_is) c.requires.proper in
-    rw (← c.self.view_is) (located c.self.inside c.self.invariant k proper c.seek.result c.seek.ensures)
+returns c = located _ c.self.invariant _ _ _ c.self.view_is _ c.requires.proper (λ e b says. search rules) c.requires.hash _ c.in_ok-place.ensures

@@ -12,6 +12,7 @@ invariant_of-self c =
     let some : 0 < s.len = omega (arith, w.long, subst (λ (m : Contents). 0 < length m.trees) (sym c.self.view_is) c.requires) in
     let e = newest-entry s w some in
     let hd = s.buckets.now in
+    rw c.bucket_of-b.ensures
     record {
       within = omega (arith, w.within);
       few = w.few;
