@@ -12,9 +12,9 @@ mod entry;
 pub use entry::Entry;
 
 // Whether the entry is of this form, over these parts.
-fn is_entry(e: Entry, items: &[Handle], node: Node, parts: &[Handle]) -> bool
-    requires { e.first + count e.node ≤ length items.now }
-    ensures { IsTrue result ↔ (cell_of items.now e ≡ cell node parts.now) }
+fn is_entry(e: &Entry, items: &[Handle], node: Node, parts: &[Handle]) -> bool
+    requires { e.now.first + count e.now.node ≤ length items.now }
+    ensures { IsTrue result ↔ (cell_of items.now e.now ≡ cell node parts.now) }
 {
     let first = e.first as usize;
     e.node == node && &items[first..first + e.node.count()] == parts
@@ -38,7 +38,7 @@ pub fn seek(
 {
     let mut at = buckets[hash as usize % buckets.len()];
     while at > 0 {
-        let e = entries[(at - 1) as usize];
+        let e = &entries[(at - 1) as usize];
         if e.hash == hash && is_entry(e, items, node, parts) {
             return Some(at - 1);
         }
