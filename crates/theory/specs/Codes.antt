@@ -1,5 +1,5 @@
 -- Leaves and heads as numbers: a tag and two numbers. A leaf or a head is read back from its code, so that their
--- equality is decided, and a hash of the code is a hash of the leaf or head.
+-- equality is decided.
 use Rattle.std.specs.Prelude.{◌≡◌, ℕ, true, false, [], ◌∷◌, slice_index_or, refl}
 use Rattle.std.proofs.Common.{sym, ap, ◌∙◌}
 use Rattle.std.proofs.Math.Decide.{ℕ_discrete}
@@ -7,11 +7,16 @@ use Rattle.theory.specs.declared.words.ArgSort.TheVariants.{Ty as ty, Region as 
 use Rattle.theory.specs.declared.words.VarSort.TheVariants.{Ty as v_ty, Int as v_int, Float as v_float, Const as v_const}
 use Rattle.theory.specs.declared.words.ListSort.TheVariants.{Arguments, Environment, OpaquePairs, Goals, Constraints, Kinds}
 use Rattle.theory.specs.declared.words.Kind.TheVariants.{Ty as k_ty, Int as k_int, Float as k_float, Region as k_region, Const as k_const, Placeholder as k_placeholder}
-use Rattle.theory.specs.declared.words.Code.{Code}
 use Rattle.theory.specs.declared.words.Leaf.{Leaf}
 use Rattle.theory.specs.declared.words.Leaf.TheVariants.{Variable, RegionVariable, Parameter, LateParameter, Placeholder, Bound, Canonical, Error, Static, Erased, Kind as AKind}
 use Rattle.theory.specs.declared.words.Head.{Head}
 use Rattle.theory.specs.declared.words.Head.TheVariants.{Constructor, Alias, Function, Unevaluated, Value, Predicate, OpaquePair, Goal, Outlives, Equal, List}
+
+-- a leaf or a head as numbers
+pub record Code : Type 0 where
+  pub tag : ℕ
+  pub one : ℕ
+  pub two : ℕ
 
 abbrev pub coded : ℕ → ℕ → ℕ → Code
 coded t x y = record { tag = t; one = x; two = y }

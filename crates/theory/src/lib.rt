@@ -12,6 +12,6 @@ pub use limits::{
     HIGHEST, LONGEST, MOST_ENTRIES, MOST_ITEMS, MOST_LEVELS, MOST_MARKS, MOST_NAMES, MOST_PLACES,
 };
 pub use words::{
-    ArgSort, Code, Facts, Flags, Handle, Head, Kind, Leaf, ListSort, Node, Sort, StoreFault,
-    Universe, VarSort, VariableSort, Want,
+    ArgSort, Facts, Flags, Handle, Head, Kind, Leaf, ListSort, Node, Sort, StoreFault, Universe,
+    VarSort, VariableSort, Want,
 };

@@ -9,7 +9,7 @@ pub type Universe = u16;
 pub type Handle = u32;
 
 // The sorts of arguments.
-#[derive(Clone, Copy, PartialEq, Eq)]
+#[derive(Clone, Copy, PartialEq, Eq, Hash)]
 pub enum ArgSort {
     Ty,
     Region,
@@ -17,7 +17,7 @@ pub enum ArgSort {
 }
 
 // The sorts of inference variables that are no regions.
-#[derive(Clone, Copy, PartialEq, Eq)]
+#[derive(Clone, Copy, PartialEq, Eq, Hash)]
 pub enum VarSort {
     Ty,
     Int,
@@ -36,7 +36,7 @@ pub enum VariableSort {
 }
 
 // Lists, by what they hold: types, regions and constants; predicates; opaque pairs; nested goals; region constraints; kinds.
-#[derive(Clone, Copy, PartialEq, Eq)]
+#[derive(Clone, Copy, PartialEq, Eq, Hash)]
 pub enum ListSort {
     Arguments,
     Environment,
@@ -60,7 +60,7 @@ pub enum Sort {
 
 // The kind of a canonical variable: a type variable with its universe and sub root, an integer or a float variable,
 // a region or a constant variable with its universe, a placeholder with its universe and number.
-#[derive(Clone, Copy, PartialEq, Eq)]
+#[derive(Clone, Copy, PartialEq, Eq, Hash)]
 pub enum Kind {
     Ty(Universe, u32),
     Int,
@@ -72,7 +72,7 @@ pub enum Kind {
 
 // What has no parts. A region's parameter is an early one; a placeholder has its universe and number, a bound variable
 // its depth and number.
-#[derive(Clone, Copy, PartialEq, Eq)]
+#[derive(Clone, Copy, PartialEq, Eq, Hash)]
 pub enum Leaf {
     Variable(VarSort, u32),
     RegionVariable(u32),
@@ -91,7 +91,7 @@ pub enum Leaf {
 // and a predicate (number, count of bound variables) stand over one list of arguments, a constant value over its type, an
 // opaque pair over an alias and its hidden type, a goal over environment and predicate, a region constraint (with its
 // visibility) over two terms, a list over its elements.
-#[derive(Clone, Copy, PartialEq, Eq)]
+#[derive(Clone, Copy, PartialEq, Eq, Hash)]
 pub enum Head {
     Constructor(u32),
     Alias(u32),
@@ -107,18 +107,10 @@ pub enum Head {
 }
 
 // An entry as it is read: a leaf, or a head over a number of parts.
-#[derive(Clone, Copy, PartialEq, Eq)]
+#[derive(Clone, Copy, PartialEq, Eq, Hash)]
 pub enum Node {
     Leaf(Leaf),
     Over(Head, usize),
-}
-
-// A leaf or a head as numbers.
-#[derive(Clone, Copy)]
-pub struct Code {
-    pub tag: u32,
-    pub one: u64,
-    pub two: u32,
 }
 
 // What a head takes at a place that it has.

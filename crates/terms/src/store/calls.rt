@@ -12,11 +12,10 @@ use theory::{Facts, Handle, Node, Sort, StoreFault};
 fn entry_at(entries: &[Entry], term: Handle) -> Result<Entry, StoreFault>
     ensures { ReadAt entries.now term result }
 {
-    let at = term as usize;
-    if at >= entries.len() {
-        return Err(StoreFault::NoSuch(term));
-    }
-    Ok(entries[at])
+    entries
+        .get(term as usize)
+        .copied()
+        .ok_or(StoreFault::NoSuch(term))
 }
 
 impl Store<'_> {
