@@ -18,7 +18,7 @@ pub enum HostFault {
 }
 
 impl HostFault {
-    // The number of the refusal.
+    // The number of the refusal, for the user's eyes: calls hand the fault itself on, and `u8::from` would not say what it is.
     pub fn number(self) -> u8
         ensures { result ≡ host_number self }
     {

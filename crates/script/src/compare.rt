@@ -1,4 +1,5 @@
 // Two canonical goals side by side: how their names pair, or where they first differ, in words.
+// What shows terms can be refused, which a Display cannot say, and so is a function over a page.
 use solver::Difference;
 use std::fmt;
 use terms::Store;

@@ -140,6 +140,7 @@ impl Session {
     }
 }
 
+// A function over a page, since to show terms can be refused.
 fn write_goal(page: &mut Printer<'_, '_>, canonical: CanonicalGoal) -> Result<(), Trouble> {
     let universe = canonical.max_universe;
     let goal = canonical.goal;

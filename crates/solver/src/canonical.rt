@@ -80,7 +80,7 @@ pub enum CallFault {
 }
 
 impl CallFault {
-    // The number of the refusal.
+    // The number of the refusal, for the user's eyes: calls hand the fault itself on, and `u8::from` would not say what it is.
     pub fn number(self) -> u8
         ensures { result ≡ call_number self }
     {

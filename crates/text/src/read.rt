@@ -256,6 +256,7 @@ impl Line<'_, '_> {
         })
     }
 
+    // The part at a place: a line that is complete has it, so no Option goes on from here.
     fn part(&self, place: usize) -> Handle {
         self.parts.get(place).copied().unwrap_or(0)
     }
