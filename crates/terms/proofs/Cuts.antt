@@ -3,14 +3,14 @@ use Rattle.std.proofs.Common.{◌≡◌, ℕ, zero, suc, ◌+◌, ◌%◌, ◌<�
 use Rattle.std.proofs.lemmas.List.{length-append, length-take-le, length-map, get_or-take, take-take, take-map, take-append-drop, take_more, take_all}
 use Rattle.theory.specs.Trees.{Tree, nil, parts, height, flags, outer}
 use Rattle.theory.specs.Store.{handle, OneHandle, used}
+use Rattle.maps.specs.Chains.{Chained}
+use Rattle.maps.proofs.Links.{chained_pop}
 use Rattle.terms.specs.declared.memory.entry.Entry.{Entry}
 use Rattle.terms.specs.Hash.{hashed}
 use Rattle.terms.specs.Memory.{Cell, cell_of, vacant, tree_of, grown, held, Within, fits, handles_at}
 use Rattle.theory.specs.Trees.{part_count as count}
 use Rattle.terms.proofs.Places.{handle-front}
 use Rattle.terms.proofs.Cells.{cells, cell_more, cells_more, grown-front, length-held, own_proper, own_tree}
-use Rattle.maps.specs.Chains.{Chained}
-use Rattle.maps.proofs.Links.{chained_pop}
 use Rattle.terms.specs.Means.{Sound}
 use Rattle.terms.proofs.Stands.{parts_many, used-push}
 
@@ -94,7 +94,7 @@ module _ (pool : List ℕ) (es : List Entry) (hd : List ℕ) (s : Sound pool es 
   each : (P : ℕ → Type 0) → ((i : ℕ) → i < n → P i) → (i : ℕ) → i < length (take n es) → P i
   each P olds i l = olds i (omega (arith, fewer))
 
-  -- the last entry goes
+  -- the last entry stands behind the others
   split : es ≡ take n es ++ get_or es n vacant ∷ []
   split = sym (take_all (n + 1) es (omega arith)) ∙ take_more es n vacant inside
 

@@ -7,8 +7,8 @@ use Rattle.theory.specs.Limits.{highest, longest, most_entries}
 use Rattle.theory.specs.Outcomes.{answered}
 use Rattle.theory.specs.Trees.{Tree, nil, parts, height}
 use Rattle.theory.specs.Store.{Contents, handle, holds, has_room, with_tree, put}
-use Rattle.terms.specs.declared.store.Store.TheInside.{Inside}
 use Rattle.maps.specs.Chains.{Sought}
+use Rattle.terms.specs.declared.store.Store.TheInside.{Inside}
 use Rattle.terms.specs.declared.memory.entry.Entry.{Entry}
 use Rattle.terms.specs.Hash.{hashed}
 use Rattle.terms.specs.Memory.{Cell, cell_of, vacant, IsAt, tree_of}

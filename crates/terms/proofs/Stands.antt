@@ -5,6 +5,7 @@ use Rattle.std.proofs.lemmas.List.{length-append, length_push, length-map, get_o
 use Rattle.theory.specs.declared.words.Facts.{Facts}
 use Rattle.theory.specs.Trees.{Tree, nil, parts, height, flags, outer, facts}
 use Rattle.theory.specs.Store.{handle, OneHandle, used}
+use Rattle.maps.proofs.Links.{chained_push}
 use Rattle.terms.specs.declared.memory.entry.Entry.{Entry}
 use Rattle.terms.specs.Hash.{hashed}
 use Rattle.terms.specs.Memory.{Cell, cell, cell_of, vacant, IsAt, tree_of, grown, held, Within, fits, handles_at, Kept, Placed, Fitted, Known, Deep, Low}
@@ -13,7 +14,6 @@ use Rattle.terms.specs.Means.{Sound}
 use Rattle.terms.proofs.Places.{handle-hit, handle_more, handle_new}
 use Rattle.terms.specs.Interning.{Proper}
 use Rattle.terms.proofs.Cells.{cells, cell_more, cells_more, grown-push, length-held, own_proper, own_tree, same_cell, parts_of}
-use Rattle.maps.proofs.Links.{chained_push}
 
 -- it rests on the part in use alone
 pub sound_at : (pool pool' : List ℕ) (es es' : List Entry) (hd hd' : List ℕ) → pool ≡ pool' → es ≡ es' → hd ≡ hd' → Sound pool es hd → Sound pool' es' hd'
