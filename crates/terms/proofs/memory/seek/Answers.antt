@@ -3,18 +3,12 @@ use Rattle.std.proofs.lemmas.Nat.{mod_below}
 use Rattle.std.proofs.lemmas.Bool.Decides.{not_from_Decides}
 use Rattle.terms.specs.Hash.{hashed}
 use Rattle.terms.specs.Memory.{Cell}
-use Rattle.terms.proofs.Walk.{left_first, left_inside, left-next, left_less, left_none}
+use Rattle.terms.proofs.Walk.{left_first, left_inside, left-next, left_less}
 use Rattle.terms.proofs.memory.seek.Goals as goal
 use Rattle.terms.proofs.memory.seek.Goals.{else-e-hash-via-then-e-hash+else-is_entry, else-e-hash-via-else-e-hash}
 
 pub loop-at-init : goal.loop-at-init
 loop-at-init c = left_first _ _ _ _ _ c.requires.hash c.requires.kept c.args.buckets.now refl (mod_below c.args.hash (length c.args.buckets.now) c.requires.some) c.requires.firsts
-
-pub is_entry-requires : goal.is_entry-requires
-is_entry-requires c = (c.requires.kept (c.loop-at.at - 1) (left_inside _ _ _ _ _ c.requires.hash c.requires.kept c.loop-at.at c.loop-at-test.true c.loop-at.invariant)).0
-
-pub returns-then-is_entry : goal.returns-then-is_entry
-returns-then-is_entry c = (left_inside _ _ _ _ _ c.requires.hash c.requires.kept c.loop-at.at c.loop-at-test.true c.loop-at.invariant, c.is_entry.ensures.0 c.if-is_entry.true)
 
 pub loop-at-smaller : goal.loop-at-smaller
 loop-at-smaller c = left_less _ _ _ _ _ c.requires.hash c.requires.kept c.loop-at.at c.loop-at-test.true c.loop-at.invariant c.requires.others
@@ -30,6 +24,3 @@ loop-at-preserved c =
       | else-e-hash-via-then-e-hash+else-is_entry w ↦ not_from_Decides _ w.is_entry.ensures w.if-is_entry.false e
       | else-e-hash-via-else-e-hash w ↦ w.if-e-hash.false h
     ])
-
-pub returns : goal.returns
-returns c = left_none _ _ _ _ _ c.requires.hash c.requires.kept c.loop-at.at c.loop-at-test.false c.loop-at.invariant
