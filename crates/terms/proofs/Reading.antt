@@ -100,9 +100,6 @@ module _ (s : Inside) (w : IsIntact s) (n : ℕ) (e : Entry) (h : (n < length (e
       present_at s n (Ok (take (count e.node) (drop e.first s.items.now))) (λ t. Ok (map (handle (trees_of s)) (parts t))) h.0
       (ap Ok (sym here ∙ sym (handles-back (trees_of s) hs w.sound.sole below) ∙ ap (map (handle (trees_of s))) (sym (parts_here s w n h.0))))
 
-  pub parts_lent : e.first + count e.node ≤ length s.items.now
-  parts_lent = omega (arith, within, length_pool s w, w.inside, w.lent_items)
-
 -- the part at a place is that place of the parts
 
 placed_part : (f : Tree → ℕ) (fault : StoreFault) (ts : List Tree) (k : ℕ) → ok_or (slice_get (map f ts) k) fault ≡ (given (at ts k) fault >>= λ u. Ok (f u))

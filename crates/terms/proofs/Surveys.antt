@@ -1,11 +1,12 @@
 -- What one pass over the parts of a new term finds is what its tree says.
-use Rattle.std.proofs.Common.{◌≡◌, ℕ, zero, suc, ◌+◌, ◌*◌, ◌/◌, ◌%◌, ◌<◌, ◌≤◌, max, Bool, true, false, cond, ltb, List, [], ◌∷◌, length, get_or, drop, Ok, Err, Result, sym, refl, ap, ◌∙◌, ⊎_elim, add-one, arith}
+use Rattle.std.proofs.Common.{◌≡◌, ℕ, suc, ◌+◌, ◌<◌, ◌≤◌, Bool, true, false, cond, ltb, List, [], ◌∷◌, length, get_or, drop, Ok, Err, Result, sym, refl, ap, ◌∙◌, ⊎_elim, add-one, arith}
 use Rattle.std.proofs.lemmas.List.{drop_more, drop_all}
 use Rattle.theory.specs.declared.words.Node.{Node}
 use mathlib.Core.Option.{Option, none, some}
 use native.Mathlib.Nat.{max-zero, zero-max}
-use lib.Bits.{bit_or, or_step, or_zero_r, or_shr}
-use Rattle.std.proofs.lemmas.Bool.{cases_Bool, cases_eq, cond-true, cond-false, lt-ltb, le-ltb}
+use Rattle.std.specs.Int.Bits.{bit_or, or_zero_r}
+use Rattle.std.proofs.lemmas.Nat.Bits.{bit_at_or, same_from_bits}
+use Rattle.std.proofs.lemmas.Bool.{cases_Bool, cond-true, cond-false, lt-ltb, le-ltb}
 use Rattle.theory.specs.declared.words.Head.{Head}
 use Rattle.theory.specs.declared.words.Head.TheVariants.{List as AList}
 use Rattle.theory.specs.declared.words.ListSort.TheVariants.{Arguments}
@@ -22,35 +23,8 @@ use Rattle.terms.proofs.Fits.{accepted-trees, one_list}
 
 -- Bits: or is associative
 
-max_assoc : (x y z : ℕ) → max (max x y) z ≡ max x (max y z)
-max_assoc x y z = omega arith
-
-or_half : (a b : ℕ) → bit_or a b / 2 ≡ bit_or (a / 2) (b / 2)
-or_half a b = or_shr a b 1
-
-or_bit : (a b : ℕ) → bit_or a b % 2 ≡ max (a % 2) (b % 2)
-or_bit a b = omega (arith, or_step a b, or_half a b)
-
-or_assoc_below : (k a b c : ℕ) → a < k → bit_or (bit_or a b) c ≡ bit_or a (bit_or b c)
-or_assoc_below zero a b c l = absurd (omega arith)
-or_assoc_below (suc k) a b c l =
-    ⊎_elim
-    (λ (z : a ≡ 0). ap (λ x. bit_or (bit_or x b) c) z ∙ ap (λ x. bit_or x (bit_or b c)) (sym z))
-    (λ (nz : a ≡ 0 → ⊥).
-    let less : a / 2 < k = omega arith in
-    let high : bit_or (bit_or (a / 2) (b / 2)) (c / 2) ≡ bit_or (a / 2) (bit_or (b / 2) (c / 2)) = or_assoc_below k (a / 2) (b / 2) (c / 2) less in
-    or_step (bit_or a b) c
-    ∙ ap (λ x. bit_or x (c / 2) * 2 + max (bit_or a b % 2) (c % 2)) (or_half a b)
-    ∙ ap (λ x. x * 2 + max (bit_or a b % 2) (c % 2)) high
-    ∙ ap (λ x. bit_or (a / 2) (bit_or (b / 2) (c / 2)) * 2 + max x (c % 2)) (or_bit a b)
-    ∙ ap (λ x. bit_or (a / 2) (bit_or (b / 2) (c / 2)) * 2 + x) (max_assoc (a % 2) (b % 2) (c % 2))
-    ∙ ap (λ x. bit_or (a / 2) (bit_or (b / 2) (c / 2)) * 2 + max (a % 2) x) (sym (or_bit b c))
-    ∙ ap (λ x. bit_or (a / 2) x * 2 + max (a % 2) (bit_or b c % 2)) (sym (or_half b c))
-    ∙ sym (or_step a (bit_or b c)))
-    (cases_eq a 0)
-
 or_assoc : (a b c : ℕ) → bit_or (bit_or a b) c ≡ bit_or a (bit_or b c)
-or_assoc a b c = or_assoc_below (suc a) a b c (omega arith)
+or_assoc a b c = same_from_bits _ _ (λ i. omega (arith, bit_at_or (bit_or a b) c i, bit_at_or a b i, bit_at_or a (bit_or b c) i, bit_at_or b c i))
 
 -- Facts of rows
 
@@ -62,7 +36,7 @@ same_facts a b c d e f p q r = ap (λ k. made_of k b c) p ∙ ap (λ k. made_of 
 
 beside_assoc : (f g h : Facts) → beside (beside f g) h ≡ beside f (beside g h)
 beside_assoc f g h =
-    same_facts _ _ _ _ _ _ (max_assoc f.height g.height h.height) (or_assoc f.flags.bits g.flags.bits h.flags.bits) (max_assoc f.outer g.outer h.outer)
+    same_facts _ _ _ _ _ _ (omega arith) (or_assoc f.flags.bits g.flags.bits h.flags.bits) (omega arith)
 
 beside_none : (f : Facts) → beside f no_facts ≡ f
 beside_none f = same_facts _ _ _ _ _ _ (max-zero f.height) (or_zero_r f.flags.bits) (max-zero f.outer)

@@ -5,7 +5,6 @@ use Rattle.std.proofs.lemmas.List.{length-map, get_or-map}
 use Rattle.theory.specs.declared.words.Facts.{Facts}
 use Rattle.theory.specs.declared.words.Head.{Head}
 use Rattle.theory.specs.declared.words.Node.{Node}
-use Rattle.theory.specs.declared.words.Node.TheVariants.{Over}
 use Rattle.theory.specs.declared.words.StoreFault.{StoreFault}
 use Rattle.theory.specs.declared.words.StoreFault.TheVariants.{NoSuch}
 use Rattle.theory.specs.Outcomes.{given, ◌>>=◌}
@@ -13,8 +12,7 @@ use Rattle.theory.specs.Trees.{Tree, nil, parts, seen, facts}
 use Rattle.theory.specs.Store.{OneHandle, found, handle, get, parts_at, facts_at}
 use Rattle.theory.proofs.Steps.{never_ok, ok_one}
 use Rattle.maps.proofs.Elements.{at_in, at_out}
-use Rattle.terms.proofs.Places.{Below, below_more, trees-at, below_at, handles-back}
-use Rattle.terms.proofs.Fits.{seen-assembled}
+use Rattle.terms.proofs.Places.{Below, below_more, below_at, handles-back}
 use Rattle.terms.proofs.Formed.{OverParts}
 
 pub found_in : (m : List Tree) (n : ℕ) → n < length m → found m n ≡ Ok (get_or m n nil)
@@ -61,13 +59,6 @@ module _ (m : List Tree) (n : ℕ) where
   facts_missing f e = asked_missing m n facts f e
 
 -- Parts
-
-pub many_parts : (m : List Tree) (n : ℕ) (h : Head) (k : ℕ) → OverParts m n h → Over h k ≡ seen (get_or m n nil) → k ≡ length (parts (get_or m n nil))
-many_parts m n h k o e =
-    let t = get_or m n nil in
-    let us = trees-at m o.handles in
-    let all : Over h k ≡ Over h (length (parts t)) = e ∙ ap seen o.tree ∙ seen-assembled h us ∙ ap (λ u. Over h (length (parts u))) (sym o.tree) in
-    cc
 
 module _ (m : List Tree) (n : ℕ) (l : n < length m) (h : Head) (o : OverParts m n h) where
   pub many_handles : length o.handles ≡ length (parts (get_or m n nil))

@@ -1,33 +1,23 @@
 -- A term whose flags show none of some bits has no leaf with one of them.
-use Rattle.std.proofs.Common.{◌≡◌, ℕ, zero, suc, ◌/◌, ◌%◌, ◌<◌, min, max, Bool, false, not, ◌||◌, None, sym, refl, ap, ◌∙◌, ⊎_elim, arith}
-use lib.Bits.{bit_and, bit_or, and_step, or_step, or_shr, and_zero_r}
-use Rattle.std.proofs.lemmas.Bool.{cases_eq, eq-eqb}
+use Rattle.std.proofs.Common.{◌≡◌, ℕ, min, max, Bool, false, not, ◌||◌, None, refl, ap, ◌∙◌, arith}
+use Rattle.std.specs.Int.{bit_at}
+use Rattle.std.specs.Int.Bits.{bit_and, bit_or}
+use Rattle.std.proofs.lemmas.Nat.Bits.{bit_at_and, bit_at_or, bit_at-zero, same_from_bits}
+use Rattle.std.proofs.lemmas.Bool.{eq-eqb}
 use Rattle.theory.specs.declared.words.Leaf.{Leaf}
 use Rattle.theory.specs.Trees.{Tree, leaf, node, nil, cons, leaf_flags, flags}
 use Rattle.theory.specs.Forms.{any}
 use Rattle.walks.specs.Flagged.{or_else, flagged, if_so, first_leaf}
 
-or_bit : (a b : ℕ) → bit_or a b % 2 ≡ max (a % 2) (b % 2)
-or_bit a b = omega (arith, or_step a b, or_shr a b 1)
-
 -- bits that two numbers have together, neither has
-apart_below : (k a b m : ℕ) → m < k → bit_and (bit_or a b) m ≡ 0 → (bit_and a m ≡ 0) × (bit_and b m ≡ 0)
-apart_below zero a b m l e = absurd (omega arith)
-apart_below (suc k) a b m l e =
-    ⊎_elim
-    (λ (z : m ≡ 0). (ap (bit_and a) z ∙ and_zero_r a, ap (bit_and b) z ∙ and_zero_r b))
-    (λ (nz : m ≡ 0 → ⊥).
-    let s = and_step (bit_or a b) m in
-    let half : bit_or a b / 2 ≡ bit_or (a / 2) (b / 2) = or_shr a b 1 in
-    let low : m / 2 < k = omega arith in
-    let high : bit_and (bit_or (a / 2) (b / 2)) (m / 2) ≡ 0 = ap (λ x. bit_and x (m / 2)) (sym half) ∙ omega (arith, s, e) in
-    let bit : min (max (a % 2) (b % 2)) (m % 2) ≡ 0 = ap (λ x. min x (m % 2)) (sym (or_bit a b)) ∙ omega (arith, s, e) in
-    let r = apart_below k (a / 2) (b / 2) (m / 2) low high in
-    (omega (arith, and_step a m, r.0, bit), omega (arith, and_step b m, r.1, bit)))
-    (cases_eq m 0)
-
 apart : (a b m : ℕ) → bit_and (bit_or a b) m ≡ 0 → (bit_and a m ≡ 0) × (bit_and b m ≡ 0)
-apart a b m e = apart_below (suc m) a b m (omega arith) e
+apart a b m e =
+    let none : (i : ℕ) → min (max (bit_at a i) (bit_at b i)) (bit_at m i) ≡ 0 =
+    λ i. omega (arith, bit_at_and (bit_or a b) m i, bit_at_or a b i, ap (λ n. bit_at n i) e, bit_at-zero i)
+    in (
+      same_from_bits (bit_and a m) 0 (λ i. omega (arith, none i, bit_at_and a m i, bit_at-zero i)),
+      same_from_bits (bit_and b m) 0 (λ i. omega (arith, none i, bit_at_and b m i, bit_at-zero i)),
+    )
 
 none_flagged : (bits : ℕ) (x : Leaf) → bit_and (leaf_flags x) bits ≡ 0 → flagged bits x ≡ false
 none_flagged bits x e = ap not (eq-eqb (bit_and (leaf_flags x) bits) 0 e)

@@ -88,6 +88,7 @@ impl Store<'_> {
     }
 
     // Adds a leaf: refuses 2 where it is not held and there is no room.
+    #[tactic(auto, unfolding(theory::specs::Store::add_leaf))]
     pub fn add_leaf(&mut self, leaf: Leaf) -> Result<Handle, StoreFault>
         ensures { (result, self.new) ≡ leaf_added self.old leaf }
     {
