@@ -26,9 +26,7 @@ impl<'a> Store<'a> {
     ) -> Store<'a>
         ensures { result ≡ empty (length entries.old) (length buckets.old) (length items.old) }
     {
-        for b in buckets.iter_mut() {
-            *b = 0;
-        }
+        buckets.fill(0);
         let limit = limit_of(entries.len(), buckets.len());
         let room = items.len().min(MOST_ITEMS);
         Store {
