@@ -21,7 +21,7 @@ impl Store<'_> {
         requires proper { Proper self.now.trees (cell node parts.now) }
         ensures { Located self.now.trees (tree_of self.now.trees (cell node parts.now)) result }
     {
-        if self.buckets.len() == 0 {
+        if self.buckets.is_empty() {
             return None;
         }
         seek(
