@@ -159,10 +159,23 @@ module _ (s : Inside) (w : IsIntact s) (n : ℕ) where
   reads (Ok e) h =
       let near : n < length (trees_of s) = omega (arith, h.0, length-trees s) in
       let low : e.facts.height ≤ highest = subst (λ (x : Entry). x.facts.height ≤ highest) (sym h.1) (w.sound.low n h.0).0 in
-      (get_ok s w n e h, facts_ok s w n e h, sort_ok s w n e h, near, low, λ q l. same_ok s w n q near l)
+      record {
+        form = get_ok s w n e h;
+        facts = facts_ok s w n e h;
+        sort = sort_ok s w n e h;
+        same = λ q l. same_ok s w n q near l;
+        inside = near;
+        low = low;
+      }
   reads (Err f) h =
       let far : length (trees_of s) ≤ n = omega (arith, h.0, length-trees s) in
-      (get_err s w n f h, facts_err s w n f h, sort_err s w n f h, λ q. same_left s w n q f h.1 far, λ p l. same_right s w p n f h.1 l far)
+      record {
+        form = get_err s w n f h;
+        facts = facts_err s w n f h;
+        sort = sort_err s w n f h;
+        same_left = λ q. same_left s w n q f h.1 far;
+        same_right = λ p l. same_right s w p n f h.1 l far;
+      }
 
 -- What stands true of the memory stands of what it means
 

@@ -17,11 +17,23 @@ ReadAt es n (Err f) = (length es ≤ n) × (f ≡ NoSuch n)
 unfoldable pub same_at : List Tree → ℕ → ℕ → Result Bool StoreFault
 same_at m a b = found m a >>= λ t. found m b >>= λ u. Ok (test (tree? t u))
 
--- what an entry says of its term, to every call that reads one: m are the trees held
+-- what an entry says of its term to every call that reads one, where m are the trees held
+pub record EntryOf (m : List Tree) (n : ℕ) (e : Entry) : Type 0 where
+  pub form : Ok e.node ≡ get m n
+  pub facts : Ok e.facts ≡ facts_at m n
+  pub sort : Ok (node_sort e.node) ≡ sort_at m n
+  pub same : (q : ℕ) → q < length m → Ok (n == q) ≡ same_at m n q
+  pub inside : n < length m
+  pub low : e.facts.height ≤ highest
+
+-- and what each of them answers where no term has the handle
+pub record NoEntry (m : List Tree) (n : ℕ) (f : StoreFault) : Type 0 where
+  pub form : Err f ≡ get m n
+  pub facts : Err f ≡ facts_at m n
+  pub sort : Err f ≡ sort_at m n
+  pub same_left : (q : ℕ) → Err f ≡ same_at m n q
+  pub same_right : (p : ℕ) → p < length m → Err f ≡ same_at m p n
+
 abbrev pub Reads : List Tree → ℕ → Result Entry StoreFault → Type 0
-Reads m n (Ok e) =
-    (Ok e.node ≡ get m n) × (Ok e.facts ≡ facts_at m n) × (Ok (node_sort e.node) ≡ sort_at m n)
-    × (n < length m) × (e.facts.height ≤ highest) × ((q : ℕ) → q < length m → Ok (n == q) ≡ same_at m n q)
-Reads m n (Err f) =
-    (Err f ≡ get m n) × (Err f ≡ facts_at m n) × (Err f ≡ sort_at m n)
-    × ((q : ℕ) → Err f ≡ same_at m n q) × ((p : ℕ) → p < length m → Err f ≡ same_at m p n)
+Reads m n (Ok e) = EntryOf m n e
+Reads m n (Err f) = NoEntry m n f

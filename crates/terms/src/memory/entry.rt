@@ -3,7 +3,8 @@ use crate::forms::NO_FACTS;
 use maps::Linked;
 use theory::{Facts, Leaf, Node, VarSort};
 
-// What a store keeps of a term. A caller lends a slice of these, all vacant or left from an earlier store.
+// What a store keeps of a term. A caller lends a slice of these, all vacant or left from an earlier store. The memory is
+// lent, so a link is a number and no Box: a store never allocates.
 #[derive(Clone, Copy)]
 pub struct Entry {
     pub(crate) node: Node,

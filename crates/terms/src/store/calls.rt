@@ -1,4 +1,4 @@
-// The calls that read, and cutting back.
+// The calls that read.
 ghost use Rattle.std.specs.Prelude.{◌≡◌, Ok, Err, MatchResult};
 ghost use Rattle.theory.specs.Store.{get as read, part as part_at, parts_at, facts_at, sort_at};
 ghost use Rattle.terms.specs.Whole.{IsWhole};

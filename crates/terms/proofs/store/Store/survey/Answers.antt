@@ -12,14 +12,14 @@ returns-in_err-e c =
     let p = err_from_is_err_and c.from_residual.result c.from_residual.ensures.1 in
     rw (p.1, p.2)
     (pass_refused m c.args.head c.args.parts.now _
-    (step_missing m.trees c.args.head l.k c.args.parts.now c.loop-k-test.true l.all _ c.in_err-e.ensures.reads.0 ∙ l.invariant.rest))
+    (step_missing m.trees c.args.head l.k c.args.parts.now c.loop-k-test.true l.all _ c.in_err-e.ensures.reads.form ∙ l.invariant.rest))
 
 pub returns-then-not-takes_part : goal.returns-then-not-takes_part
 returns-then-not-takes_part c =
     let m = c.args.self.now in
     let l = c.loop-k in
     pass_refused m c.args.head c.args.parts.now _
-    (step_bad m.trees c.args.head l.k c.args.parts.now c.loop-k-test.true l.all c.in_ok-e.e.node c.in_ok-e.ensures.reads.0 (sym c.if-not-takes_part.ensures) ∙ l.invariant.rest)
+    (step_bad m.trees c.args.head l.k c.args.parts.now c.loop-k-test.true l.all c.in_ok-e.e.node c.in_ok-e.ensures.reads.form (sym c.if-not-takes_part.ensures) ∙ l.invariant.rest)
 
 pub loop-k-preserved : goal.loop-k-preserved
 loop-k-preserved c =
@@ -30,8 +30,8 @@ loop-k-preserved c =
     record {
       rest =
           ap (surveyed m c.args.head (l.k + 1) _) c.join_facts-all.ensures
-          ∙ step_more m c.args.head l.k c.args.parts.now c.loop-k-test.true l.all e.node e.facts r.0 r.1 (sym c.if-not-takes_part.ensures) ∙ l.invariant.rest;
-      low = omega (arith, r.4, l.invariant.low, ap (λ (f : Facts). f.height) c.join_facts-all.ensures);
+          ∙ step_more m c.args.head l.k c.args.parts.now c.loop-k-test.true l.all e.node e.facts r.form r.facts (sym c.if-not-takes_part.ensures) ∙ l.invariant.rest;
+      low = omega (arith, r.low, l.invariant.low, ap (λ (f : Facts). f.height) c.join_facts-all.ensures);
     }
 
 pub returns-then-parts-least_parts : goal.returns-then-parts-least_parts
