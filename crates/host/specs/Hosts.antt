@@ -23,6 +23,10 @@ placed h = cond (has_place h) (Ok tt) (Err LogFull)
 abbrev pub opened : PlainHost → Result ℕ HostFault
 opened h = cond (has_place h) (cond (nat_lt (h.universes + 1) 65536) (Ok (h.universes + 1)) (Err LogFull)) (Err LogFull)
 
+-- whether a variable may be made in a universe: 4 for an unopened one, then 5
+abbrev pub makeable : PlainHost → ℕ → Result (Unit {0}) HostFault
+makeable h u = cond (nat_lt h.universes u) (Err (UnknownUniverse u)) (placed h)
+
 -- a variable gets the next number of its sort: 4 for an unopened universe, then 5
 abbrev pub made : PlainHost → VariableSort → ℕ → Result ℕ HostFault
 made h s u = cond (nat_lt h.universes u) (Err (UnknownUniverse u)) (cond (has_place h) (Ok (count h s)) (Err LogFull))

@@ -1,14 +1,14 @@
 // A context beside its store: a host, and the questions that were asked of it.
 ghost use Rattle.std.specs.Prelude.{◌≡◌, [], ◌∷◌, ◌++◌, IfOk, is_some, min, if◌then◌else◌, vec_len, OnErr, OnOk, nat_le, nat_lt};
 ghost use Rattle.theory.specs.Limits.{most_places};
-ghost use Rattle.host.specs.Hosts.{count as how_many, opened, joined, Fresh, UniverseOpened, Grown, AfterJoin};
-ghost use Rattle.host.specs.declared.fault.HostFault.TheVariants.{Store as in_store, UnknownUniverse as unopened, LogFull as no_place};
+ghost use Rattle.script.specs.Contexts.{made_in};
+ghost use Rattle.host.specs.Hosts.{opened, joined, Fresh, UniverseOpened, Grown, AfterJoin};
 
 use host::{HostFault, PlainHost};
 use solver::{CallFault, CanonicalGoal, Goal, Question, Scratch};
 use std::alloc::{AllocError, Global};
 use terms::Store;
-use theory::{Handle, StoreFault, Universe, VariableSort};
+use theory::{Handle, Universe, VariableSort};
 
 // A goal that was accepted: its question and its canonical form.
 #[derive(Drop)]
@@ -97,33 +97,13 @@ impl Context {
         sort: VariableSort,
         universe: Universe,
     ) -> Result<u32, HostFault>
-        ensures number { IfOk result (λ n. n ≡ how_many self.old.host sort) }
+        ensures both { (result, store.new) ≡ made_in self.old.host store.old sort universe }
         ensures next { OnOk result (Grown sort self.old.host self.new.host) }
         ensures kept { OnErr result (self.new ≡ self.old) }
     {
-        let held = store.len();
-        let variable = sort.leaf(self.host.count(sort));
-        store
-            .add_leaf(variable)
-            .map_err(|fault| self.before_store(universe, fault))?;
-        let made = self.host.make(sort, universe);
-        if made.is_err() {
-            store.cut(held);
-        }
-        made
-    }
-
-    // Where the store refuses the term of a variable: the host's own refusals come first.
-    fn before_store(&self, universe: Universe, fault: StoreFault) -> HostFault
-        ensures { result ≡ (if nat_lt self.now.host.universes universe then unopened universe else (if nat_le self.now.host.places self.now.host.used then no_place else in_store fault)) }
-    {
-        if universe > self.host.universe() {
-            HostFault::UnknownUniverse(universe)
-        } else if self.host.is_full() {
-            HostFault::LogFull
-        } else {
-            HostFault::Store(fault)
-        }
+        self.host.may_make(universe)?;
+        store.add_leaf(sort.leaf(self.host.count(sort)))?;
+        self.host.make(sort, universe)
     }
 
     // Takes a goal to its canonical form; the question is still to be kept.

@@ -1,7 +1,7 @@
 // The calls of a host: each answers and changes it as specs/Hosts.antt says, and a refused one leaves it as it was.
 ghost use Rattle.std.specs.Prelude.{◌≡◌, ℕ, ◌+◌, ◌<◌, ◌≤◌, min, IfOk, if◌then◌else◌, vec_len, vec_capacity, OnErr, OnOk, nat_eq, nat_le, nat_lt, slice_index};
 ghost use Rattle.theory.specs.Limits.{most_places};
-ghost use Rattle.host.specs.Hosts.{count as how_many, placed, opened, made, rooted, joined, PlaceTaken, UniverseOpened, Grown, Fresh, AfterJoin};
+ghost use Rattle.host.specs.Hosts.{count as how_many, placed, makeable, opened, made, rooted, joined, PlaceTaken, UniverseOpened, Grown, Fresh, AfterJoin};
 
 use crate::fault::HostFault;
 use crate::plain::{PlainHost, SORTS};
@@ -98,15 +98,26 @@ impl PlainHost {
         Ok(next)
     }
 
+    // Whether a variable may be made in a universe, for a caller who has more to do where it may.
+    pub fn may_make(&self, universe: Universe) -> Result<(), HostFault>
+        ensures { result ≡ makeable self.now universe }
+    {
+        if universe > self.universes {
+            return Err(HostFault::UnknownUniverse(universe));
+        }
+        if self.is_full() {
+            return Err(HostFault::LogFull);
+        }
+        Ok(())
+    }
+
     // Makes a variable in an opened universe, with the next number of its sort.
     pub fn make(&mut self, sort: VariableSort, universe: Universe) -> Result<u32, HostFault>
         ensures answer { result ≡ made self.old sort universe }
         ensures kept { OnErr result (self.new ≡ self.old) }
         ensures next { OnOk result (Grown sort self.old self.new) }
     {
-        if universe > self.universes {
-            return Err(HostFault::UnknownUniverse(universe));
-        }
+        self.may_make(universe)?;
         self.take_place()?;
         let at = sort as usize;
         let number = self.counts[at];

@@ -1,5 +1,6 @@
 // A map is made over memory that the caller lends.
-ghost use Rattle.std.specs.Prelude.{◌≡◌, [], length};
+ghost use Rattle.std.specs.Prelude.{◌≡◌, ◌≤◌, [], length};
+ghost use Rattle.theory.specs.Limits.{most_entries};
 ghost use Rattle.maps.specs.Room.{limited};
 
 use crate::map::Map;
@@ -26,7 +27,8 @@ impl<'a, K: Copy + Eq + Hash, V: Copy> Map<'a, K, V> {
 impl<K: Copy + Eq + Hash, V: Copy> Map<'_, K, V> {
     // How many pairs there are.
     pub fn len(&self) -> usize
-        ensures { result ≡ length self.now.pairs }
+        ensures count { result ≡ length self.now.pairs }
+        ensures few { (length self.now.pairs ≤ self.now.room) × (self.now.room ≤ most_entries) }
     {
         self.len
     }

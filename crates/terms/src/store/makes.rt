@@ -1,5 +1,6 @@
 // A store is made over memory that the caller lends.
 ghost use Rattle.std.specs.Prelude.{◌≡◌, length};
+ghost use Rattle.terms.specs.Whole.{IsWhole};
 ghost use Rattle.terms.specs.Means.{empty};
 
 use crate::memory::Entry;
@@ -34,7 +35,8 @@ impl<'a> Store<'a> {
 impl Store<'_> {
     // How many terms are held.
     pub fn len(&self) -> usize
-        ensures { result ≡ length self.now.trees }
+        ensures count { result ≡ length self.now.trees }
+        ensures whole { IsWhole self.now }
     {
         self.len
     }
