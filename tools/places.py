@@ -11,32 +11,34 @@ from collections import defaultdict
 PATTERNS = {
     1: [
         ("a variant that says that there is nothing", r"^\s+(Nothing|Unknown|NotYet|End|TooLarge\(u64\)|UnknownForm),"),
-        ("a truth value beside a result that is handed out", r"Result<bool,"),
-        ("0 as nothing, and a place as one more", r"\bat (== 0|> 0)|\(at - 1\)"),
-        ("a number for a kind or a refusal", r"Refused\(u8\)|tag: u32|fn number\(self\) -> u8|fn flags_of_\w+\(.*-> u16|\b(144|192|512),$|round: u32,$"),
-        ("a value that stands for none", r"letter: VariableSort::Ty|\.unwrap_or\(0\)|original: 0"),
+        ("a truth value as a call's result", r"Result<bool,"),
+        ("0 as nothing, and a place as one more", r"\bat (== 0|> 0)|\(at - 1\)|checked_sub\(1\)|as u32 \+ 1"),
+        ("a number for a kind or a refusal", r"Refused\(u8\)|tag: u32|fn number\(self\) -> u8|fn flags_of_\w+\(.*-> u16|\b(144|192|512),$|round: u32,$|\w+\(bool\),$"),
+        ("a value that stands for none", r"letter: VariableSort::Ty|unwrap_or(_default)?\(0?\)|original: 0|earlier: 0,|last: 0,"),
     ],
     3: [
         ("a counted index", r"for (\w+) in (\d+|\w+)\.\.(?!=?u64::MAX)"),
         ("a count without an end", r"for \w+ in \d+\.\.u64::MAX"),
-        ("a counter by hand", r"while .*(\.len|\bat) [<>]"),
+        ("a counter by hand", r"while .*(\.len(\(\))?|\bat) [<>]"),
     ],
     4: [
         ("equality", r"fn is_same(_\w+)?\(|fn is_class\("),
         ("a test of the variant", r"^\s+(_|.*) => (true|false),"),
-        ("a conversion", r"fn (verb_of|letter|term_form|value_form|head_word|variable|canonical|code|code_of_\w+|host_sort)\("),
-        ("a cut number", r"fn (earlier|last)(_\w+)?\(self\)"),
-        ("a hash", r"fn (hash|hash_of\w*|mix|finish)\("),
+        ("a conversion", r"fn (verb_of|form_of|named|letter|term_form|value_form|head_word|variable|canonical|code|code_of_\w+|host_sort|sort_of)\("),
+        ("a cut number", r"fn (earlier|last)(_\w+)?(<[^(]*>)?\(self\)|fn fit"),
+        ("a hash", r"fn (hash|hash_of\w*|mix|finish|digest)[<(]"),
+        ("bits by hand", r"\.bits [|&]|\| Flags"),
         ("text", r"fn (write_\w+|\w+_words|\w+_word|\w+_letter|place_words)\("),
     ],
     6: [
         ("a buffer with a count of what is in use", r"^\s+(len|used|limit|room): usize,"),
         ("lent memory", r"^\s+\w+: &'a mut \["),
-        ("a stack of one's own", r"^\s+(pub(\(super\))? )?(jobs|open|waiting|outer|parts): Vec<"),
+        ("a stack of one's own", r"^\s+(pub(\(super\))? )?(jobs|open|opened|waiting|outer|parts|numbers): Vec<"),
         ("a sorted or searched list", r"^\s+(list|table|roots|names): Vec<"),
+        ("counts by a sort's number", r"counts: \["),
     ],
     7: [
-        ("a switch on the next step", r"match job|enum Job|fn turn\("),
+        ("a switch on the next step", r"match job|enum Job|fn turn\(|match i %"),
     ],
 }
 
@@ -71,26 +73,24 @@ def functions(text):
 
 
 def twins(commit):
-    """Functions of one name in two places, and functions whose bodies differ in names and numbers alone."""
+    """Functions of one name in two crates, and functions whose bodies differ in names and numbers alone."""
     by_shape = defaultdict(list)
-    by_name = defaultdict(list)
+    by_name = defaultdict(set)
     for name, text in files(commit):
         crate = name.split("/")[1]
-        for m in re.finditer(r"(?m)^( *)(pub(?:\([a-z]+\))? )?fn (\w+)[^;]*?^\1\{\n(.*?)^\1\}", text, re.S):
-            body = m.group(4)
-            shape = re.sub(r"\b[A-Za-z_]\w*\b|\d[\w]*", "x", body)
+        for m in re.finditer(r"(?m)^( *)(?:pub(?:\([a-z]+\))? )?fn (\w+)[^;{]*?(?:\{[^\n]*\}[^;{]*?)*\{\n(.*?)^\1\}", text, re.S):
+            shape = re.sub(r"\b[A-Za-z_]\w*\b|\d\w*", "x", m.group(3))
             shape = re.sub(r"\s+", " ", shape)
-            if len(shape) > 40:
-                by_shape[shape].append(f"{name}: {m.group(3)}")
+            if len(shape) > 30:
+                by_shape[shape].append(f"{name}: {m.group(2)}")
         for function, _, _ in functions(text):
-            if "impl" not in function:
-                by_name[function].append((crate, name))
+            by_name[function].add((crate, name))
     for shape, where in by_shape.items():
         if len(where) > 1:
             yield "bodies of one shape: " + ", ".join(where)
+    common = {"new", "from", "main", "len", "clear", "get", "number", "fmt", "eq", "hash", "next", "push", "pop", "try_from", "clone"}
     for function, where in by_name.items():
-        crates = {crate for crate, _ in where}
-        if len(crates) > 1 and function not in ("new", "from", "main", "len", "clear", "get", "number", "fmt", "eq", "hash", "next", "push", "pop"):
+        if len({crate for crate, _ in where}) > 1 and function not in common:
             yield f"one name in several crates: {function} in " + ", ".join(sorted(n for _, n in where))
 
 
@@ -103,7 +103,7 @@ def repeated(commit):
         for function, parameters, stated in functions(text):
             for clause in stated:
                 clauses[crate, clause].add(f"{name}: {function}")
-            taken = sorted(set(re.findall(r"(\w+): [^,]+", parameters)) & {"store", "host", "scratch", "out", "printer", "part", "text", "token", "slots", "buckets", "entries", "items", "names", "heap"})
+            taken = sorted(set(re.findall(r"(\w+): [^,]+", parameters)) & {"store", "host", "scratch", "out", "printer", "part", "text", "token", "slots", "buckets", "entries", "items", "names", "node", "parts", "first", "second", "a", "b", "hash", "page"})
             for i in range(len(taken)):
                 for j in range(i + 1, len(taken)):
                     groups[crate, taken[i], taken[j]].add(f"{name}: {function}")
