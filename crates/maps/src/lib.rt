@@ -7,7 +7,7 @@ mod map;
 mod room;
 mod slot;
 
-pub use chain::{Linked, bucket_of, seek};
+pub use chain::{Link, Linked, put_first, seek, take_first};
 pub use key::{Placeholder, TypeVariable};
 pub use map::Map;
 pub use room::limit_of;

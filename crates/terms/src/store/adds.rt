@@ -12,7 +12,7 @@ use crate::forms::{NO_FACTS, facts_of_leaf, join_facts, least_parts, takes_part,
 use crate::hash::hash_of;
 use crate::memory::{Entry, is_entry};
 use crate::store::Store;
-use maps::{bucket_of, seek};
+use maps::{put_first, seek};
 use theory::{Facts, HIGHEST, Handle, Head, LONGEST, Leaf, Node, StoreFault};
 
 impl Store<'_> {
@@ -48,16 +48,15 @@ impl Store<'_> {
     {
         let len = self.len;
         let used = self.used;
-        let b = bucket_of(hash, self.buckets.len());
+        let next = put_first(self.buckets, hash, len);
         self.items[used..used + parts.len()].copy_from_slice(parts);
         self.entries[len] = Entry {
             node,
             first: used as u32,
             hash,
-            next: self.buckets[b],
+            next,
             facts,
         };
-        self.buckets[b] = len as u32 + 1;
         self.len = len + 1;
         self.used = used + parts.len();
         len as u32
