@@ -42,6 +42,22 @@ impl Link {
     }
 }
 
+impl From<u32> for Link {
+    ghost from_gives = { λ number r. r ≡ number };
+
+    fn from(number: u32) -> Link {
+        Link(number)
+    }
+}
+
+impl From<Link> for u32 {
+    ghost from_gives = { λ link r. r ≡ link };
+
+    fn from(link: Link) -> u32 {
+        link.0
+    }
+}
+
 // An entry of an index: the hash of what it holds, and a link to the newest entry before it in its bucket.
 pub trait Linked {
     ghost hash_of: { Self → ℕ };
@@ -71,8 +87,8 @@ pub fn put_first(buckets: &mut [u32], hash: u32, place: usize) -> Link
     ensures after { buckets.new ≡ set buckets.old (hash % length buckets.old) (place + 1) }
 {
     let b = bucket_of(hash, buckets.len());
-    let next = Link(buckets[b]);
-    buckets[b] = Link::to(place).0;
+    let next = Link::from(buckets[b]);
+    buckets[b] = Link::to(place).into();
     next
 }
 
@@ -82,7 +98,7 @@ pub fn take_first(buckets: &mut [u32], hash: u32, next: Link)
     ensures { buckets.new ≡ set buckets.old (hash % length buckets.old) next }
 {
     let b = bucket_of(hash, buckets.len());
-    buckets[b] = next.0;
+    buckets[b] = next.into();
 }
 
 // The newest entry with this hash that is the one sought, by the chain of its bucket.
@@ -97,7 +113,7 @@ pub fn seek<T: Linked, F: Fn(&T) -> bool>(
     requires callable { All (λ x. (p : _) → p.now ≡ x → F.pre is_it p) entries.now }
     ensures { Sought T.hash_of (FnReturnsAt F.Fn is_it) hash entries.now result }
 {
-    let mut at = Link(buckets[bucket_of(hash, buckets.len())]).place();
+    let mut at = Link::from(buckets[bucket_of(hash, buckets.len())]).place();
     while let Some(place) = at {
         let entry = &entries[place];
         if entry.hash() == hash && is_it(entry) {

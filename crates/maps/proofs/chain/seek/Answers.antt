@@ -7,7 +7,7 @@ use Rattle.maps.proofs.chain.seek.Goals.{else-hash-via-then-hash+else-is_it, els
 
 pub loop-at-init : goal.loop-at-init
 loop-at-init g c =
-    left_first _ _ _ _ _ _ _ refl c.requires.chained (mod_below c.args.hash (length c.args.buckets.now) c.requires.some) _ (rw c.bucket_of.ensures at c.place-at.ensures)
+    left_first _ _ _ _ _ _ _ refl c.requires.chained (mod_below c.args.hash (length c.args.buckets.now) c.requires.some) _ (rw (c.from.ensures, c.bucket_of.ensures) at c.place-at.ensures)
 
 pub returns-then-is_it : goal.returns-then-is_it
 returns-then-is_it g c =
