@@ -19,8 +19,8 @@ pub struct Placeholder {
     pub number: u32,
 }
 
-// A key's hash, as wide as a slot keeps it.
-pub(crate) fn digest<K: Hash>(key: &K) -> u32
+// A key's hash, as wide as an entry of an index keeps it.
+pub fn digest<K: Hash>(key: &K) -> u32
     ensures { result ≡ digest K.hash_input key.now }
 {
     let mut hasher = FoldHasher::default();

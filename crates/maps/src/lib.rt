@@ -7,8 +7,8 @@ mod map;
 mod room;
 mod slot;
 
-pub use chain::{Linked, bucket_of, seek};
-pub use key::{Placeholder, TypeVariable};
+pub use chain::{Link, Linked, put_first, seek, take_first};
+pub use key::{Placeholder, TypeVariable, digest};
 pub use map::Map;
 pub use room::limit_of;
 pub use slot::Slot;

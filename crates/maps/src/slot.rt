@@ -1,16 +1,16 @@
 // One slot of a map's memory.
 ghost use Rattle.std.specs.Prelude.{◌≡◌};
 
-use crate::chain::Linked;
+use crate::chain::{Link, Linked};
 
 // A key with its value. A caller lends a slice of these, and what they hold before does not matter.
 #[derive(Clone, Copy)]
 pub struct Slot<K, V> {
     pub(crate) key: K,
     pub(crate) value: V,
-    // the key's hash, and one more than the place of the pair before it in its bucket, or 0
+    // the key's hash, and the pair before it in its bucket
     pub(crate) hash: u32,
-    pub(crate) next: u32,
+    pub(crate) next: Link,
 }
 
 impl<K: Copy, V: Copy> Slot<K, V> {
@@ -22,7 +22,7 @@ impl<K: Copy, V: Copy> Slot<K, V> {
             key,
             value,
             hash: 0,
-            next: 0,
+            next: Link::NONE,
         }
     }
 }
@@ -36,7 +36,7 @@ impl<K, V> Linked for Slot<K, V> {
         self.hash
     }
 
-    fn next(&self) -> u32 {
+    fn next(&self) -> Link {
         self.next
     }
 }

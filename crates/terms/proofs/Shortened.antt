@@ -1,7 +1,7 @@
 -- A store after its newest term was taken away.
 use Rattle.std.proofs.Common.{◌≡◌, ◌+◌, ◌-◌, ◌%◌, ◌<◌, ◌≤◌, length, get_or, take, set, sym, ap, ◌∙◌, subst, arith}
 use Rattle.std.proofs.lemmas.Nat.{mod_below}
-use Rattle.std.proofs.lemmas.List.{get_or-take, take-take, length-take-le}
+use Rattle.std.proofs.lemmas.List.{get_or_default, get_or-take, take-take, length-take-le}
 use Rattle.terms.specs.declared.memory.entry.Entry.{Entry}
 use Rattle.terms.specs.declared.store.Store.TheInside.{Inside}
 use Rattle.terms.specs.Memory.{held, vacant}
@@ -10,15 +10,18 @@ use Rattle.terms.proofs.Stands.{sound_at}
 use Rattle.terms.proofs.Pushed.{length-entries, length_pool}
 use Rattle.terms.proofs.Cuts.{held_cut, sound_cut}
 
-module _ (s : Inside) (w : IsIntact s) (some : 0 < s.len) where
+-- the newest entry is read with any entry as the default
+module _ (s : Inside) (w : IsIntact s) (some : 0 < s.len) (d : Entry) where
   abbrev pub newest-entry : Entry
-  newest-entry = get_or s.entries.now (s.len - 1) vacant
+  newest-entry = get_or s.entries.now (s.len - 1) d
 
   last : s.len - 1 + 1 ≡ length (entries_of s)
   last = omega (arith, length-entries s w)
 
   same : get_or (entries_of s) (s.len - 1) vacant ≡ newest-entry
-  same = get_or-take s.len s.entries.now (s.len - 1) vacant (omega arith)
+  same =
+      get_or_default (entries_of s) (s.len - 1) vacant d (omega (arith, last))
+      ∙ get_or-take s.len s.entries.now (s.len - 1) d (omega arith)
 
   pub first_in : newest-entry.first ≤ s.used
   first_in =

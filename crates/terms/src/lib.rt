@@ -1,8 +1,8 @@
 // The store of terms: every term stands in it once, and a handle names it.
 #![tactic(auto)]
 
+mod cell;
 mod forms;
-mod hash;
 mod memory;
 mod store;
 

@@ -4,7 +4,7 @@ ghost use Rattle.theory.specs.Outcomes.{at as elem};
 ghost use Rattle.maps.specs.Keys.{digest};
 ghost use Rattle.maps.specs.Pairs.{pair as pair_with, place as place_of_key, found, revalued, inserted, shown, ReadsAs};
 
-use crate::chain::{bucket_of, seek};
+use crate::chain::{put_first, seek, take_first};
 use crate::key::digest;
 use crate::map::Map;
 use crate::slot::Slot;
@@ -65,15 +65,13 @@ impl<K: Copy + Eq + Hash, V: Copy> Map<'_, K, V> {
         ensures { self.new ≡ record self.old { pairs = self.old.pairs ++ pair_with key value hash ∷ [] } }
     {
         let len = self.len;
-        let b = bucket_of(hash, self.buckets.len());
-        let next = self.buckets[b];
+        let next = put_first(self.buckets, hash, len);
         self.slots[len] = Slot {
             key,
             value,
             hash,
             next,
         };
-        self.buckets[b] = len as u32 + 1;
         self.len = len + 1;
     }
 
@@ -101,8 +99,7 @@ impl<K: Copy + Eq + Hash, V: Copy> Map<'_, K, V> {
     {
         let last = self.len - 1;
         let slot = self.slots[last];
-        let b = bucket_of(slot.hash, self.buckets.len());
-        self.buckets[b] = slot.next;
+        take_first(self.buckets, slot.hash, slot.next);
         self.len = last;
     }
 

@@ -1,18 +1,17 @@
 // An entry.
 use crate::forms::NO_FACTS;
-use maps::Linked;
+use maps::{Link, Linked};
 use theory::{Facts, Leaf, Node, VarSort};
 
-// What a store keeps of a term. A caller lends a slice of these, all vacant or left from an earlier store. The memory is
-// lent, so a link is a number and no Box: a store never allocates.
+// What a store keeps of a term. A caller lends a slice of these, all vacant or left from an earlier store.
 #[derive(Clone, Copy)]
 pub struct Entry {
     pub(crate) node: Node,
     // where its parts stand in the items
     pub(crate) first: u32,
     pub(crate) hash: u32,
-    // one more than the entry before it in its bucket, or 0
-    pub(crate) next: u32,
+    // the entry before it in its bucket
+    pub(crate) next: Link,
     pub(crate) facts: Facts,
 }
 
@@ -21,7 +20,7 @@ impl Entry {
         node: Node::Leaf(Leaf::Variable(VarSort::Ty, 0)),
         first: 0,
         hash: 0,
-        next: 0,
+        next: Link::NONE,
         facts: NO_FACTS,
     };
 }
@@ -35,7 +34,7 @@ impl Linked for Entry {
         self.hash
     }
 
-    fn next(&self) -> u32 {
+    fn next(&self) -> Link {
         self.next
     }
 }

@@ -8,26 +8,26 @@ ghost use Rattle.terms.specs.Memory.{cell, tree_of};
 ghost use Rattle.terms.specs.Interning.{Proper, Located, Addable, room_for};
 ghost use Rattle.terms.specs.Survey.{Passed};
 
+use crate::cell::Cell;
 use crate::forms::{NO_FACTS, facts_of_leaf, join_facts, least_parts, takes_part, top_facts};
-use crate::hash::hash_of;
 use crate::memory::{Entry, is_entry};
 use crate::store::Store;
-use maps::{bucket_of, seek};
+use maps::{put_first, seek};
 use theory::{Facts, HIGHEST, Handle, Head, LONGEST, Leaf, Node, StoreFault};
 
 impl Store<'_> {
-    // The handle of a form over parts.
-    fn locate(&self, hash: u32, node: Node, parts: &[Handle]) -> Option<Handle>
-        requires hash { hash ≡ hashed node parts.now }
-        requires proper { Proper self.now.trees (cell node parts.now) }
-        ensures { Located self.now.trees (tree_of self.now.trees (cell node parts.now)) result }
+    // The handle of a cell's term.
+    fn locate(&self, hash: u32, sought: Cell) -> Option<Handle>
+        requires hash { hash ≡ hashed sought.node sought.parts.now }
+        requires proper { Proper self.now.trees (cell sought.node sought.parts.now) }
+        ensures { Located self.now.trees (tree_of self.now.trees (cell sought.entry.node sought.entry.parts.now)) result }
     {
         if self.buckets.is_empty() {
             return None;
         }
         let items = &self.items[..self.used];
         let place = seek(&self.entries[..self.len], self.buckets, hash, |e| {
-            is_entry(e, items, node, parts)
+            is_entry(e, items, sought)
         })?;
         Some(place as u32)
     }
@@ -40,24 +40,24 @@ impl Store<'_> {
     }
 
     // One more entry, at the front of its bucket's chain.
-    fn push(&mut self, node: Node, parts: &[Handle], hash: u32, facts: Facts) -> Handle
-        requires hash { hash ≡ hashed node parts.now }
-        requires addable { Addable self.old (cell node parts.now) facts }
+    fn push(&mut self, hash: u32, own: Cell, facts: Facts) -> Handle
+        requires hash { hash ≡ hashed own.node own.parts.now }
+        requires addable { Addable self.old (cell own.node own.parts.now) facts }
         ensures value { result ≡ length self.old.trees }
-        ensures after { self.new ≡ with_tree self.old (tree_of self.old.trees (cell node parts.now)) }
+        ensures after { self.new ≡ with_tree self.old (tree_of self.old.trees (cell own.entry.node own.entry.parts.now)) }
     {
+        let Cell { node, parts } = own;
         let len = self.len;
         let used = self.used;
-        let b = bucket_of(hash, self.buckets.len());
+        let next = put_first(self.buckets, hash, len);
         self.items[used..used + parts.len()].copy_from_slice(parts);
         self.entries[len] = Entry {
             node,
             first: used as u32,
             hash,
-            next: self.buckets[b],
+            next,
             facts,
         };
-        self.buckets[b] = len as u32 + 1;
         self.len = len + 1;
         self.used = used + parts.len();
         len as u32
@@ -65,26 +65,26 @@ impl Store<'_> {
 }
 
 impl Store<'_> {
-    // The handle of a form over parts, which is added where it is not held yet.
-    fn intern(&mut self, node: Node, parts: &[Handle], facts: Facts) -> Result<Handle, StoreFault>
-        requires proper { Proper self.old.trees (cell node parts.now) }
-        requires facts { facts ≡ facts_of (tree_of self.old.trees (cell node parts.now)) }
-        ensures { (result, self.new) ≡ answered self.old (put self.old (tree_of self.old.trees (cell node parts.now))) }
+    // The handle of a cell's term, which is added where it is not held yet.
+    fn intern(&mut self, own: Cell, facts: Facts) -> Result<Handle, StoreFault>
+        requires proper { Proper self.old.trees (cell own.node own.parts.now) }
+        requires facts { facts ≡ facts_of (tree_of self.old.trees (cell own.node own.parts.now)) }
+        ensures { (result, self.new) ≡ answered self.old (put self.old (tree_of self.old.trees (cell own.entry.node own.entry.parts.now))) }
     {
-        let hash = hash_of(node, parts);
-        if let Some(term) = self.locate(hash, node, parts) {
+        let hash = own.digest();
+        if let Some(term) = self.locate(hash, own) {
             return Ok(term);
         }
-        if !self.has_room(parts.len()) {
+        if !self.has_room(own.parts.len()) {
             return Err(StoreFault::Full);
         }
         if facts.height > HIGHEST {
             return Err(StoreFault::TooHigh);
         }
-        if parts.len() > LONGEST {
+        if own.parts.len() > LONGEST {
             return Err(StoreFault::TooLong);
         }
-        Ok(self.push(node, parts, hash, facts))
+        Ok(self.push(hash, own, facts))
     }
 
     // Adds a leaf: refuses 2 where it is not held and there is no room.
@@ -92,7 +92,11 @@ impl Store<'_> {
     pub fn add_leaf(&mut self, leaf: Leaf) -> Result<Handle, StoreFault>
         ensures { (result, self.new) ≡ leaf_added self.old leaf }
     {
-        self.intern(Node::Leaf(leaf), &[], facts_of_leaf(leaf))
+        let own = Cell {
+            node: Node::Leaf(leaf),
+            parts: &[],
+        };
+        self.intern(own, facts_of_leaf(leaf))
     }
 
     // What is found of a head over parts: refuses 1 at the first handle that names nothing or part that does not fit.
@@ -118,6 +122,10 @@ impl Store<'_> {
         ensures { (result, self.new) ≡ node_added self.old head parts.now }
     {
         let facts = self.survey(head, parts)?;
-        self.intern(Node::Over(head, parts.len()), parts, facts)
+        let own = Cell {
+            node: Node::Over(head, parts.len()),
+            parts,
+        };
+        self.intern(own, facts)
     }
 }

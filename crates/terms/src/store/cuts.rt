@@ -3,7 +3,7 @@ ghost use Rattle.std.specs.Prelude.{◌≡◌, ◌-◌, ◌<◌, length};
 ghost use Rattle.theory.specs.Store.{cut_back};
 
 use crate::store::Store;
-use maps::bucket_of;
+use maps::take_first;
 
 impl Store<'_> {
     // Takes the newest term away: its bucket's chain begins with the one before it again.
@@ -13,8 +13,7 @@ impl Store<'_> {
     {
         let last = self.len - 1;
         let e = self.entries[last];
-        let b = bucket_of(e.hash, self.buckets.len());
-        self.buckets[b] = e.next;
+        take_first(self.buckets, e.hash, e.next);
         self.len = last;
         self.used = e.first as usize;
     }

@@ -7,7 +7,7 @@ use Rattle.maps.proofs.chain.seek.Goals.{else-hash-via-then-hash+else-is_it, els
 
 pub loop-at-init : goal.loop-at-init
 loop-at-init g c =
-    left_first _ _ _ _ _ _ _ refl c.requires.chained (mod_below c.args.hash (length c.args.buckets.now) c.requires.some) _ (rw c.bucket_of.ensures at c.place_of-at.ensures)
+    left_first _ _ _ _ _ _ _ refl c.requires.chained (mod_below c.args.hash (length c.args.buckets.now) c.requires.some) _ (rw (c.from.ensures, c.bucket_of.ensures) at c.place-at.ensures)
 
 pub returns-then-is_it : goal.returns-then-is_it
 returns-then-is_it g c =
@@ -18,13 +18,13 @@ returns-then-is_it g c =
 pub loop-at-smaller : goal.loop-at-smaller
 loop-at-smaller g c =
     left_less _ _ _ _ _ _ _ refl c.requires.chained _ c.loop-at.invariant _ c.in-Some.is _ c.index-entries-place.is
-    _ (c.place_of-at-in-Some.ensures ∙ ap place_of c.next.ensures)
+    _ (c.place-at-in-Some.ensures ∙ ap place_of c.next.ensures)
 
 -- the test says no, or the hash is another
 pub loop-at-preserved : goal.loop-at-preserved
 loop-at-preserved g c =
     left_next _ _ _ _ _ _ _ refl c.requires.chained _ c.loop-at.invariant _ c.in-Some.is _ c.index-entries-place.is
-    _ (c.place_of-at-in-Some.ensures ∙ ap place_of c.next.ensures)
+    _ (c.place-at-in-Some.ensures ∙ ap place_of c.next.ensures)
     (λ is.
     elim c.else-hash.branch [
       | else-hash-via-then-hash+else-is_it v ↦ record { shown = _; shows = refl; says = record { met = rw v.if-is_it.false at v.is_it.ensures } }

@@ -7,4 +7,4 @@ pub invariant_of-self : goal.invariant_of-self
 invariant_of-self g c =
     let m = c.self.invariant in
     let back : c.self.inside.len ≡ (c.self.inside.len - 1) + 1 = omega (arith, many_pairs m c.self.view_is) in
-    rw c.bucket_of-b.ensures (indexed_pop _ _ _ _ _ (rw back at m))
+    rw c.take_first.ensures (indexed_pop _ _ _ _ _ (rw back at m))

@@ -19,13 +19,13 @@ pub invariant_of-self : goal.invariant_of-self
 invariant_of-self c =
     let s = c.self.inside in
     let w = c.self.invariant in
-    let ps = c.args.parts.now in
-    let e : Entry = record { node = c.args.node; first = s.used; hash = c.args.hash; next = get_or s.buckets.now (c.args.hash % length s.buckets.now) 0; facts = c.args.facts } in
+    let ps = c.args.own.parts.now in
+    let e : Entry = record { node = c.args.own.node; first = s.used; hash = c.args.hash; next = get_or s.buckets.now (c.args.hash % length s.buckets.now) 0; facts = c.args.facts } in
     let a : Addable (means s) (cell e.node ps) e.facts = subst (λ (m : Contents). Addable m (cell e.node ps) e.facts) (sym c.self.view_is) c.requires.addable in
     let hash = c.requires.hash in
     let items = written s.items.now ps c.copy_from_slice.new.self s.used (omega (arith, w.inside, w.lent_items)) c.copy_from_slice.ensures.after in
     let after = trees-after s w e ps a refl hash refl _ items in
-    rw c.bucket_of-b.ensures
+    rw (c.put_first-next.ensures.next, c.put_first-next.ensures.after)
     record {
       within = omega (arith, entry_left s w e ps a refl hash refl);
       few = w.few;
@@ -42,8 +42,8 @@ pub returns-clause-after : goal.returns-clause-after
 returns-clause-after c =
     let s = c.self.inside in
     let w = c.self.invariant in
-    let ps = c.args.parts.now in
-    let e : Entry = record { node = c.args.node; first = s.used; hash = c.args.hash; next = get_or s.buckets.now (c.args.hash % length s.buckets.now) 0; facts = c.args.facts } in
+    let ps = c.args.own.parts.now in
+    let e : Entry = record { node = c.args.own.node; first = s.used; hash = c.args.hash; next = get_or s.buckets.now (c.args.hash % length s.buckets.now) 0; facts = c.args.facts } in
     let a : Addable (means s) (cell e.node ps) e.facts = subst (λ (m : Contents). Addable m (cell e.node ps) e.facts) (sym c.self.view_is) c.requires.addable in
     let items = written s.items.now ps c.copy_from_slice.new.self s.used (omega (arith, w.inside, w.lent_items)) c.copy_from_slice.ensures.after in
-    rw (c.bucket_of-b.ensures, ← c.self.view_is) (ap (λ ts. record { trees = ts; entries = s.limit; items = s.room }) (trees-after s w e ps a refl c.requires.hash refl _ items))
+    rw (c.put_first-next.ensures.next, ← c.self.view_is) (ap (λ ts. record { trees = ts; entries = s.limit; items = s.room }) (trees-after s w e ps a refl c.requires.hash refl _ items))
