@@ -132,11 +132,16 @@ impl<'a> Iterator for Tokens<'a> {
     }
 }
 
+// Whether a word is a number, of any size.
+pub fn is_number(word: &[u8]) -> bool {
+    !word.is_empty() && word.iter().all(|b| b.is_ascii_digit())
+}
+
 // A number in decimal digits, at most the limit.
 pub fn number(word: &[u8], limit: u64) -> Result<u64, WordFault>
     ensures { Within limit result }
 {
-    if word.is_empty() || !word.iter().all(|b| b.is_ascii_digit()) {
+    if !is_number(word) {
         return Err(WordFault::Unknown);
     }
     word.iter()
@@ -159,7 +164,8 @@ fn canonical(sort: VariableSort, number: u32) -> Result<Leaf, WordFault> {
 
 // `?tN` and its like, `^tN` and its like.
 fn numbered_leaf(sign: u8, letter: u8, digits: &[u8]) -> Result<Leaf, WordFault> {
-    let number = fit(number(digits, u64::from(u32::MAX))?);
+    let most = u64::from(u32::MAX);
+    let number = fit(number(digits, most)?).ok_or(WordFault::TooLarge(most))?;
     let Letter(sort) = Letter::try_from(letter)?;
     match sign {
         b'?' => Ok(sort.leaf(number)),
