@@ -1,4 +1,4 @@
-// What the forms of terms mean to the store: sorts, what a head takes, and what is found of a leaf.
+// What the forms of terms mean to the store: what a head takes, and what is found of a leaf and of a head over its parts.
 ghost use Rattle.std.specs.Prelude.{◌≡◌, ℕ, ◌≤◌};
 ghost use Rattle.terms.specs.Survey.{beside, topped};
 ghost use Rattle.theory.specs.Limits.{highest};
@@ -61,11 +61,10 @@ pub fn least_parts(head: Head) -> usize
 pub fn takes_part(head: Head, place: usize, part: Node) -> bool
     ensures { result ≡ takes head place part }
 {
+    let is_alias = matches!(part, Node::Over(Head::Alias(_), _));
     match wants(head, place) {
         None => false,
-        Some(Want::Argument) => matches!(part.sort(), Sort::Argument(_)),
-        Some(Want::Alias) => matches!(part, Node::Over(Head::Alias(_), _)),
-        Some(Want::Of(sort)) => sort == part.sort(),
+        Some(want) => want.suits(part.sort(), is_alias),
     }
 }
 

@@ -234,7 +234,7 @@ impl Form {
         }
     }
 
-    // The sort of what the form makes.
+    // The sort of what the form makes. It is asked when the form opens, before the numbers of its head are known.
     pub fn sort(self) -> Sort
         ensures { result ≡ form_sort self }
     {
@@ -273,9 +273,7 @@ impl Place {
     // Whether the place takes a value of a sort; an alias is a type that some places ask for.
     pub fn takes(self, sort: Sort, is_alias: bool) -> bool {
         match self {
-            Place::Term(Want::Argument) => matches!(sort, Sort::Argument(_)),
-            Place::Term(Want::Alias) => is_alias,
-            Place::Term(Want::Of(wanted)) => wanted == sort,
+            Place::Term(want) => want.suits(sort, is_alias),
             // parts of lists, as a kind or an opaque pair, do not stand alone
             Place::AnyValue => !matches!(sort, Sort::OpaquePair | Sort::Constraint | Sort::Kind),
             Place::Number(_) | Place::Letter | Place::TypeVariable | Place::Question => false,

@@ -1,10 +1,10 @@
 // The lexer: cuts a line into parentheses and words, and reads the words that stand alone.
-ghost use Rattle.std.specs.Prelude.{◌≡◌, ◌-◌, ◌<◌, ◌≤◌, length, take, drop};
+ghost use Rattle.std.specs.Prelude.{◌≡◌, ◌-◌, ◌<◌, ◌≤◌, ◌↔◌, All, IsTrue, length, take, drop};
 ghost use Rattle.text.specs.Words.{Within, Inside};
 
 use crate::letter::Letter;
 use crate::width::fit;
-use theory::{ArgSort, Kind, Leaf, VariableSort};
+use theory::{ArgSort, Kind, Leaf};
 
 #[derive(Clone, Copy, PartialEq, Eq)]
 pub enum Mark {
@@ -132,11 +132,18 @@ impl<'a> Iterator for Tokens<'a> {
     }
 }
 
+// Whether a word is a number, of any size.
+pub fn is_number(word: &[u8]) -> bool
+    ensures { IsTrue result ↔ ((0 < length word.now) × All (λ b. (48 ≤ b) × (b ≤ 57)) word.now) }
+{
+    !word.is_empty() && word.iter().all(|b| b.is_ascii_digit())
+}
+
 // A number in decimal digits, at most the limit.
 pub fn number(word: &[u8], limit: u64) -> Result<u64, WordFault>
     ensures { Within limit result }
 {
-    if word.is_empty() || !word.iter().all(|b| b.is_ascii_digit()) {
+    if !is_number(word) {
         return Err(WordFault::Unknown);
     }
     word.iter()
@@ -148,22 +155,17 @@ pub fn number(word: &[u8], limit: u64) -> Result<u64, WordFault>
         .ok_or(WordFault::TooLarge(limit))
 }
 
-fn canonical(sort: VariableSort, number: u32) -> Result<Leaf, WordFault> {
-    match sort {
-        VariableSort::Ty => Ok(Leaf::Canonical(ArgSort::Ty, number)),
-        VariableSort::Region => Ok(Leaf::Canonical(ArgSort::Region, number)),
-        VariableSort::Const => Ok(Leaf::Canonical(ArgSort::Const, number)),
-        VariableSort::Int | VariableSort::Float => Err(WordFault::Unknown),
-    }
-}
-
 // `?tN` and its like, `^tN` and its like.
 fn numbered_leaf(sign: u8, letter: u8, digits: &[u8]) -> Result<Leaf, WordFault> {
-    let number = fit(number(digits, u64::from(u32::MAX))?);
+    let most = u64::from(u32::MAX);
+    let number = fit(number(digits, most)?).ok_or(WordFault::TooLarge(most))?;
     let Letter(sort) = Letter::try_from(letter)?;
     match sign {
         b'?' => Ok(sort.leaf(number)),
-        b'^' => canonical(sort, number),
+        b'^' => match ArgSort::try_from(sort) {
+            Ok(sort) => Ok(Leaf::Canonical(sort, number)),
+            Err(_) => Err(WordFault::Unknown),
+        },
         _ => Err(WordFault::Unknown),
     }
 }

@@ -4,7 +4,7 @@ use crate::trouble::Trouble;
 use terms::Store;
 use theory::{Handle, Node};
 
-// A text that is being written, beside the store whose values it shows.
+// A text that is being written, beside the store whose values it shows. No Display, since to show a value can be refused.
 #[derive(Drop)]
 pub struct Printer<'s, 'm> {
     pub store: &'s Store<'m>,

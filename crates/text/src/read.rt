@@ -1,6 +1,6 @@
 // The reader: takes a line in one pass and adds its terms to the store. The open forms stand on a stack of its own, since a
 // line may nest as deep as it is long.
-use crate::build::{Numbers, build};
+use crate::build::{Made, Numbers, build, made_of};
 use crate::form::{Form, Open, Place, Verb};
 use crate::letter::Letter;
 use crate::lex::{self, Mark, Span, Token, Tokens, WordFault};
@@ -36,9 +36,7 @@ struct Frame {
     span: Span,
     first: usize,
     filled: usize,
-    // No Option: a command is made of a line whose places are filled, so that one would only add a branch that is never
-    // taken.
-    letter: VariableSort,
+    letter: Option<VariableSort>,
     numbers: Numbers,
 }
 
@@ -49,7 +47,7 @@ impl Frame {
             span,
             first,
             filled: 0,
-            letter: VariableSort::Ty,
+            letter: None,
             numbers: Numbers::NONE,
         }
     }
@@ -72,28 +70,28 @@ impl Frame {
 
     // Whether every place that has to be filled is.
     fn complete(&self) -> Result<(), Reason> {
-        let least = self.open.places().least();
-        if self.filled < least {
-            Err(Reason::TooFew(self.filled, least))
+        if self.filled < self.open.places().least() {
+            Err(self.too_few())
         } else {
             Ok(())
         }
     }
-}
 
-fn verb_of(token: Token<'_>) -> Result<Verb, Reason> {
-    if token.mark == Mark::Word {
-        Verb::try_from(token.word)
-    } else {
-        Err(Reason::NoCommand)
+    // Why nothing is made of too few fields.
+    fn too_few(&self) -> Reason {
+        Reason::TooFew(self.filled, self.open.places().least())
     }
 }
 
-fn form_of(token: Token<'_>) -> Result<Form, Reason> {
+// The command or form that has a token's name; what is missing, where the token is no word.
+fn named<'t, T: TryFrom<&'t [u8], Error = Reason>>(
+    token: Token<'t>,
+    missing: Reason,
+) -> Result<T, Reason> {
     if token.mark == Mark::Word {
-        Form::try_from(token.word)
+        T::try_from(token.word)
     } else {
-        Err(Reason::NoHead)
+        Err(missing)
     }
 }
 
@@ -136,10 +134,8 @@ fn leaf(word: &[u8], place: Place) -> Result<Leaf, Reason> {
     match lex::leaf(word) {
         Ok(leaf) => Ok(leaf),
         Err(WordFault::TooLarge(limit)) => Err(Reason::TooLarge(limit)),
-        Err(WordFault::Unknown) => Err(match lex::number(word, 0) {
-            Err(WordFault::Unknown) => Reason::UnknownWord,
-            _ => Reason::NumberMisplaced(place),
-        }),
+        Err(WordFault::Unknown) if lex::is_number(word) => Err(Reason::NumberMisplaced(place)),
+        Err(WordFault::Unknown) => Err(Reason::UnknownWord),
     }
 }
 
@@ -172,7 +168,7 @@ impl Line<'_, '_> {
     // Opens a form, if it may stand where it does.
     fn open(&mut self, span: Span, head: Option<Token<'_>>) -> Result<(), Trouble> {
         let head = located(span, head.ok_or(Reason::NoClose))?;
-        let form = located(head.span, form_of(head))?;
+        let form: Form = located(head.span, named(head, Reason::NoHead))?;
         located(span, self.top.admit(form.sort(), form.is_alias()))?;
         self.outer.push(self.top)?;
         self.top = Frame::new(Open::Form(form), span, self.parts.len());
@@ -186,7 +182,8 @@ impl Line<'_, '_> {
             return located(span, Err(Reason::NoOpen));
         };
         located(span, frame.complete())?;
-        let term = self.term(form, frame);
+        let made = located(span, made_of(form, frame.numbers).ok_or(frame.too_few()))?;
+        let term = self.term(made, frame.first);
         self.parts.truncate(frame.first);
         if let Some(outer) = self.outer.pop() {
             self.top = outer;
@@ -194,11 +191,11 @@ impl Line<'_, '_> {
         self.put(term)
     }
 
-    // The term of a form with the parts that stand on the stack for it.
-    fn term(&mut self, form: Form, frame: Frame) -> Result<Handle, StoreFault> {
+    // The term of what a form makes, with the parts that stand on the stack from a place on.
+    fn term(&mut self, made: Made, first: usize) -> Result<Handle, StoreFault> {
         self.accepted?;
-        let parts = self.parts.get(frame.first..).unwrap_or_default();
-        build(self.store, form, frame.numbers, parts)
+        let parts = self.parts.get(first..).ok_or(StoreFault::BadPart(first))?;
+        build(self.store, made, parts)
     }
 
     // The term of a leaf.
@@ -221,7 +218,7 @@ impl Line<'_, '_> {
         let place = located(token.span, self.top.place())?;
         match located(token.span, field_of(token.word, place, self.asked))? {
             Field::Number(number) => self.top.numbers = self.top.numbers.then(number),
-            Field::Letter(letter) => self.top.letter = letter,
+            Field::Letter(letter) => self.top.letter = Some(letter),
             Field::Leaf(leaf) => {
                 located(token.span, self.top.admit(leaf.sort(), false))?;
                 let term = self.leaf(leaf);
@@ -239,26 +236,30 @@ impl Line<'_, '_> {
         }
         located(end, self.top.complete())?;
         self.accepted?;
+        located(end, self.command(verb).ok_or(self.top.too_few()))
+    }
+
+    // The command of what was read; none where a field is missing.
+    fn command(&self, verb: Verb) -> Option<Command> {
         let numbers = self.top.numbers;
-        Ok(match verb {
+        Some(match verb {
             Verb::New => Command::New,
             Verb::Universe => Command::Universe,
-            Verb::Term => Command::Term(self.part(0)),
-            Verb::Var => Command::Var(self.top.letter, numbers.last()),
-            Verb::Join => Command::Join(numbers.earlier(), numbers.last()),
-            Verb::Compare => Command::Compare(numbers.earlier(), numbers.last()),
+            Verb::Term => Command::Term(self.part(0)?),
+            Verb::Var => Command::Var(self.top.letter?, numbers.last()?),
+            Verb::Join => Command::Join(numbers.earlier()?, numbers.last()?),
+            Verb::Compare => Command::Compare(numbers.earlier()?, numbers.last()?),
             Verb::Goal => Command::Goal(Goal {
-                env: self.part(0),
-                value: self.part(1),
-                opaques: self.part(2),
-                mode: numbers.last(),
+                env: self.part(0)?,
+                value: self.part(1)?,
+                opaques: self.part(2)?,
+                mode: numbers.last()?,
             }),
         })
     }
 
-    // The part at a place: a line that is complete has it, so no Option goes on from here.
-    fn part(&self, place: usize) -> Handle {
-        self.parts.get(place).copied().unwrap_or(0)
+    fn part(&self, place: usize) -> Option<Handle> {
+        self.parts.get(place).copied()
     }
 }
 
@@ -288,7 +289,7 @@ impl Reader {
         let Some(first) = tokens.next() else {
             return Ok(None);
         };
-        let verb = located(first.span, verb_of(first))?;
+        let verb = located(first.span, named(first, Reason::NoCommand))?;
         self.outer.clear();
         self.parts.clear();
         let mut line = Line {

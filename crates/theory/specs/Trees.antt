@@ -217,10 +217,14 @@ abbrev pub is_alias : Node → Bool
 is_alias (ALeaf x) = false
 is_alias (Over h n) = is_alias_head h
 
+-- whether what has a sort, and is an alias or none, is wanted
+abbrev pub suits : Want → Sort → Bool → Bool
+suits AnArgument s alias = is_argument s
+suits AnAlias s alias = alias
+suits (Of wanted) s alias = same_sort wanted s
+
 abbrev pub meets : Want → Node → Bool
-meets AnArgument v = is_argument (node_sort v)
-meets AnAlias v = is_alias v
-meets (Of s) v = same_sort s (node_sort v)
+meets w v = suits w (node_sort v) (is_alias v)
 
 abbrev pub served : Option Want → Node → Bool
 served None v = false

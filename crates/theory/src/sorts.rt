@@ -2,8 +2,8 @@
 ghost use Rattle.std.specs.Prelude.{◌≡◌};
 ghost use Rattle.theory.specs.Log.{of_var};
 ghost use Rattle.theory.specs.Forms.{variable_of};
-ghost use Rattle.theory.specs.Sorts.{of_argument};
-ghost use Rattle.theory.specs.Trees.{var_sort, leaf_sort, head_sort, node_sort, element, part_count, applies};
+ghost use Rattle.theory.specs.Sorts.{of_argument, to_argument};
+ghost use Rattle.theory.specs.Trees.{var_sort, leaf_sort, head_sort, node_sort, element, part_count, applies, suits};
 
 use crate::words::{ArgSort, Head, Leaf, ListSort, Node, Sort, VarSort, VariableSort, Want};
 
@@ -40,6 +40,22 @@ impl From<ArgSort> for VariableSort {
             ArgSort::Ty => VariableSort::Ty,
             ArgSort::Region => VariableSort::Region,
             ArgSort::Const => VariableSort::Const,
+        }
+    }
+}
+
+// The sort comes back where no sort of arguments is its own.
+impl TryFrom<VariableSort> for ArgSort {
+    type Error = VariableSort;
+
+    ghost try_from_gives = { λ s r. r ≡ to_argument s };
+
+    fn try_from(sort: VariableSort) -> Result<ArgSort, VariableSort> {
+        match sort {
+            VariableSort::Ty => Ok(ArgSort::Ty),
+            VariableSort::Region => Ok(ArgSort::Region),
+            VariableSort::Const => Ok(ArgSort::Const),
+            VariableSort::Int | VariableSort::Float => Err(sort),
         }
     }
 }
@@ -141,6 +157,19 @@ impl ListSort {
             ListSort::Goals => Want::Of(Sort::Goal),
             ListSort::Constraints => Want::Of(Sort::Constraint),
             ListSort::Kinds => Want::Of(Sort::Kind),
+        }
+    }
+}
+
+impl Want {
+    // Whether a term of a sort is what is wanted; an alias is a type that some places ask for.
+    pub fn suits(self, sort: Sort, is_alias: bool) -> bool
+        ensures { result ≡ suits self sort is_alias }
+    {
+        match self {
+            Want::Argument => matches!(sort, Sort::Argument(_)),
+            Want::Alias => is_alias,
+            Want::Of(wanted) => wanted == sort,
         }
     }
 }

@@ -1,5 +1,0 @@
-use Rattle.std.proofs.Common.{rules}
-use Rattle.text.proofs.width.fit.Goals as goal
-
-pub returns : goal.returns
-returns g c = (c.try_from.result, c.try_from.ensures, search rules)
