@@ -1,5 +1,5 @@
 // The results of a walk, by handle. They are forgotten all at once, since each carries the round that it was found in.
-ghost use Rattle.std.specs.Prelude.{◌≡◌, ℕ, ◌<◌, ◌≤◌, get_or, IfOk, None, slice_index_or, slice_set};
+ghost use Rattle.std.specs.Prelude.{◌≡◌, ℕ, ◌<◌, ◌≤◌, IfOk, None, slice_index_or, slice_set};
 ghost use Rattle.solver.specs.Caches.{vacant, kept_in, held};
 
 use std::alloc::{AllocError, Global};
@@ -26,7 +26,7 @@ pub struct Cache {
     round: u32,
     table: Vec<Cached>,
     ghost begun: { 0 < round },
-    ghost past: { (t : ℕ) → (get_or table.items t vacant).round ≤ round },
+    ghost past: { (t : ℕ) → (slice_index_or table.items t vacant).round ≤ round },
 }
 
 impl Cache {

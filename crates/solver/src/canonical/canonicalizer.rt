@@ -1,6 +1,6 @@
 // The canonicalizer: names become canonical variables, in walk order, parts before wholes.
 ghost use Rattle.std.specs.Prelude.{◌≡◌, ◌+◌, ◌*◌, ◌^◌, ◌<◌, ◌≤◌, true, length, IfOk, IfErr, OnOk};
-ghost use Rattle.solver.specs.Goals.{leaf_variable, known, form_sort};
+ghost use Rattle.solver.specs.Goals.{leaf_variable, known};
 ghost use Rattle.solver.specs.Sizes.{size_at};
 ghost use Rattle.solver.specs.Walks.{SameOpen, AllHeld, IsHeld, turns, turns_left, turns_of_size};
 ghost use Rattle.solver.specs.Numbers.{call_number, of_goal};
@@ -12,9 +12,9 @@ use crate::canonical::scratch::{Open, Scratch, put_reserved};
 use crate::canonical::{CallFault, CanonicalGoal, Goal, Question};
 use host::PlainHost;
 use terms::Store;
-use theory::{ArgSort, Flags, Handle, Head, Leaf, ListSort, Node, Sort, StoreFault, VariableSort};
+use theory::{Flags, Handle, Head, Leaf, ListSort, Node, Sort, StoreFault, VariableSort};
 
-// The variable that a leaf is.
+// The variable that a leaf is. No method: `Leaf` is of a lower crate, in which nothing asks for it.
 fn variable(leaf: Leaf) -> Option<(VariableSort, u32)>
     ensures { result ≡ leaf_variable leaf }
 {
@@ -34,17 +34,6 @@ fn check_known(host: &PlainHost, leaf: Leaf) -> Result<(), GoalFault>
             sort, number,
         )),
         _ => Ok(()),
-    }
-}
-
-// The sort of the canonical variable that stands for a name of this form.
-fn sort_of(form: Form) -> ArgSort
-    ensures { result ≡ form_sort form }
-{
-    match form {
-        Form::Ty(_) | Form::Int | Form::Float => ArgSort::Ty,
-        Form::Const => ArgSort::Const,
-        Form::Placeholder(sort) => sort,
     }
 }
 
@@ -83,7 +72,7 @@ impl Canonicalizer<'_, '_> {
             return Err(GoalFault::TypeVariableInEnvironment(term));
         }
         let number = self.tables.names.number_of(self.host, term, form)?;
-        Ok(self.store.add_leaf(Leaf::Canonical(sort_of(form), number))?)
+        Ok(self.store.add_leaf(Leaf::Canonical(form.sort(), number))?)
     }
 
     // Whether a term can be left as it is, with no look at its parts. An environment in the value is met even where nothing

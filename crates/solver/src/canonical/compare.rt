@@ -1,4 +1,5 @@
-// Where two canonical goals first differ.
+// Where two canonical goals first differ. What is compared comes as two parameters, as in `eq`: a struct of both sides would
+// have no method, and only be taken apart.
 ghost use Rattle.std.specs.Prelude.{◌≡◌, ◌≢◌, ◌<◌, ◌≤◌, length, not, ◌==◌, find, IfOk, IfSome};
 ghost use Rattle.theory.specs.Limits.{longest};
 ghost use Rattle.solver.specs.Sizes.{size_at};

@@ -7,7 +7,9 @@ use crate::canonical::CallFault;
 use host::HostFault;
 use theory::{Handle, StoreFault, VariableSort};
 
-// The faults of a call that a goal can meet: its host's log is not written to.
+// The faults of a call that a goal can meet: its host's log is not written to. A type of its own says so of the whole walk
+// with no clause. It does not stand whole inside CallFault: callers match that one's variants, and a fault of the store or an
+// unknown variable would come in two forms, as the host's and as the goal's.
 #[derive(Clone, Copy)]
 pub enum GoalFault {
     Store(StoreFault),

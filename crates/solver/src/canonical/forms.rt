@@ -1,6 +1,6 @@
 // The one decision of canonicalizing: which leaves are names, and of which form.
 ghost use Rattle.std.specs.Prelude.{◌≡◌};
-ghost use Rattle.solver.specs.Goals.{goal_form};
+ghost use Rattle.solver.specs.Goals.{form_sort, goal_form};
 
 use theory::{ArgSort, Leaf, VarSort};
 
@@ -25,6 +25,19 @@ pub enum Form {
     Float,
     Const,
     Placeholder(ArgSort),
+}
+
+impl Form {
+    // The sort of the canonical variable that stands for a name of this form.
+    pub fn sort(self) -> ArgSort
+        ensures { result ≡ form_sort self }
+    {
+        match self {
+            Form::Ty(_) | Form::Int | Form::Float => ArgSort::Ty,
+            Form::Const => ArgSort::Const,
+            Form::Placeholder(sort) => sort,
+        }
+    }
 }
 
 // The form that a leaf gets in that part of a goal, or none where it stays as it is.
