@@ -1,5 +1,6 @@
 // Two canonical goals side by side: how their names pair, or where they first differ, in words.
-// What shows terms can be refused, which a Display cannot say, and so is a function over a page.
+// What shows terms can be refused, which a Display cannot say, and so is a function over a page. The two sides stay two
+// parameters, since only two functions take them, each where the sides have just come one by one.
 use solver::Difference;
 use std::fmt;
 use terms::Store;

@@ -32,6 +32,7 @@ impl Asked {
     }
 }
 
+// The store is no field, since it is lent from line to line: the three calls that reach it take it.
 #[derive(Drop)]
 pub struct Context {
     host: PlainHost,

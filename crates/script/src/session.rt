@@ -10,7 +10,7 @@ use terms::Store;
 use text::{BadLine, Command, Letter, Printer, Reader, Trouble};
 use theory::{Handle, StoreFault, Universe, VariableSort};
 
-// The store stands beside the session, since its memory is the caller's.
+// The store is no field, since its memory is the caller's.
 #[derive(Drop)]
 pub struct Session {
     heap: Global,
@@ -51,37 +51,55 @@ impl Session {
     // Runs a line; no answer where there is no command.
     fn run(&mut self, store: &mut Store<'_>, text: &[u8]) -> Result<Option<String>, Trouble> {
         let asked = self.context.asked_count();
-        match self.reader.read(store, text, asked)? {
-            Some(command) => self.perform(store, command).map(Some),
-            None => Ok(None),
-        }
+        let Some(command) = self.reader.read(store, text, asked)? else {
+            return Ok(None);
+        };
+        let mut run = Run {
+            heap: self.heap,
+            store,
+            context: &mut self.context,
+            scratch: &mut self.scratch,
+        };
+        run.perform(command).map(Some)
     }
+}
 
+// A line that is being answered: the context and its store, and the memory that the answer is made with.
+#[derive(Drop)]
+struct Run<'a, 'm> {
+    heap: Global,
+    store: &'a mut Store<'m>,
+    context: &'a mut Context,
+    scratch: &'a mut Scratch,
+}
+
+impl<'m> Run<'_, 'm> {
     // Runs a command; its answer.
-    fn perform(&mut self, store: &mut Store<'_>, command: Command) -> Result<String, Trouble> {
+    fn perform(&mut self, command: Command) -> Result<String, Trouble> {
         match command {
             Command::New => {
-                self.context.clear(store);
+                self.context.clear(self.store);
                 Ok(String::from_str(self.heap, "ok")?)
             }
-            Command::Term(value) => self.show(store, value),
-            Command::Var(sort, universe) => self.make(store, sort, universe),
+            Command::Term(value) => self.show(value),
+            Command::Var(sort, universe) => self.make(sort, universe),
             Command::Universe => self.open_universe(),
             Command::Join(a, b) => self.join(a, b),
-            Command::Goal(goal) => self.goal(store, goal),
-            Command::Compare(first, second) => self.compare(store, first, second),
+            Command::Goal(goal) => self.goal(goal),
+            Command::Compare(first, second) => self.compare(first, second),
         }
     }
 
-    fn page<'s, 'm>(&self, store: &'s Store<'m>) -> Printer<'s, 'm> {
+    // A page of the store, on which nothing is written yet.
+    fn page(&self) -> Printer<'_, 'm> {
         Printer {
-            store,
+            store: self.store,
             out: String::new(self.heap),
         }
     }
 
-    fn show(&self, store: &Store<'_>, value: Handle) -> Result<String, Trouble> {
-        let mut page = self.page(store);
+    fn show(&self, value: Handle) -> Result<String, Trouble> {
+        let mut page = self.page();
         page.value(value)?;
         Ok(page.out)
     }
@@ -91,13 +109,8 @@ impl Session {
         Ok(format!(in self.heap; "{universe} ; (U)")?)
     }
 
-    fn make(
-        &mut self,
-        store: &mut Store<'_>,
-        sort: VariableSort,
-        universe: Universe,
-    ) -> Result<String, Trouble> {
-        let number = self.context.make(store, sort, universe)?;
+    fn make(&mut self, sort: VariableSort, universe: Universe) -> Result<String, Trouble> {
+        let number = self.context.make(self.store, sort, universe)?;
         let letter = Letter(sort);
         Ok(format!(in self.heap; "?{letter}{number} ; (V {letter} {universe})")?)
     }
@@ -110,29 +123,29 @@ impl Session {
         })
     }
 
-    fn goal(&mut self, store: &mut Store<'_>, goal: Goal) -> Result<String, Trouble> {
-        let asked = self.context.canonicalize(store, &mut self.scratch, goal)?;
-        let answer = self.show_asked(store, &asked)?;
+    fn goal(&mut self, goal: Goal) -> Result<String, Trouble> {
+        let asked = self.context.canonicalize(self.store, self.scratch, goal)?;
+        let answer = self.show_asked(&asked)?;
         self.context.keep(asked)?;
         Ok(answer)
     }
 
     // A question that is still to be kept, with its number.
-    fn show_asked(&self, store: &Store<'_>, asked: &Asked) -> Result<String, Trouble> {
-        let mut page = self.page(store);
+    fn show_asked(&self, asked: &Asked) -> Result<String, Trouble> {
+        let mut page = self.page();
         write!(page.out, "q{} ", self.context.asked_count())?;
         page.values(asked.originals())?;
         write_goal(&mut page, asked.goal())?;
         Ok(page.out)
     }
 
-    fn compare(&self, store: &Store<'_>, first: usize, second: usize) -> Result<String, Trouble> {
+    fn compare(&self, first: usize, second: usize) -> Result<String, Trouble> {
         // the reader lets only questions through that were asked
         let (Some(one), Some(two)) = (self.context.asked(first), self.context.asked(second)) else {
             return Err(Trouble::from(StoreFault::BadPart(first)));
         };
-        let mut page = self.page(store);
-        match solver::compare(store, one.goal(), two.goal())? {
+        let mut page = self.page();
+        match solver::compare(self.store, one.goal(), two.goal())? {
             None => compare::write_pairing(&mut page, one.originals(), two.originals())?,
             Some(difference) => compare::write_difference(&mut page, difference)?,
         }

@@ -1,8 +1,8 @@
 // What the forms of terms mean to the store: what a head takes, and what is found of a leaf and of a head over its parts.
-ghost use Rattle.std.specs.Prelude.{◌≡◌, ℕ, ◌≤◌};
+ghost use Rattle.std.specs.Prelude.{◌≡◌, ◌≤◌};
 ghost use Rattle.terms.specs.Survey.{beside, topped};
 ghost use Rattle.theory.specs.Limits.{highest};
-ghost use Rattle.theory.specs.Trees.{leaf, only, both, wants as wanted, least, takes, weight, opens, facts, leaf_flags, reach, var_flags, free, is_argument, is_alias, same_sort};
+ghost use Rattle.theory.specs.Trees.{leaf, only, both, wants as wanted, least, takes, weight, opens, facts, leaf_flags, reach, var_flags, free};
 
 use theory::{ArgSort, Facts, Flags, Head, Leaf, ListSort, Node, Sort, VarSort, Want};
 

@@ -1,4 +1,4 @@
-// The sort of each form, what lists hold, and variables by their sort.
+// The sort of each form, what lists hold, what a place wants, and variables by their sort.
 ghost use Rattle.std.specs.Prelude.{◌≡◌};
 ghost use Rattle.theory.specs.Log.{of_var};
 ghost use Rattle.theory.specs.Forms.{variable_of};
