@@ -3,13 +3,13 @@ use Rattle.std.proofs.Common.{◌≡◌, ℕ, suc, ◌+◌, ◌-◌, ◌*◌, �
 use Rattle.std.proofs.Math.Nat.{one-le-pow, pow-suc, pow-le-pow_right, mul-le-mul_right}
 use Rattle.std.proofs.lemmas.List.{get_or-take, length-take}
 use Rattle.std.proofs.lemmas.List.Sums.{sum_by-cons, sum_by_push}
-use Rattle.std.specs.List.{All}
 use Rattle.theory.specs.Trees.{Tree, nil}
 use Rattle.theory.specs.Store.{Contents, Grown}
 use Rattle.solver.specs.declared.canonical.scratch.Open.{Open}
 use Rattle.solver.specs.Sizes.{size, size_at}
 use Rattle.solver.specs.declared.canonical.canonicalizer.Canonicalizer.{Canonicalizer}
-use Rattle.solver.specs.Walks.{opens, SameOpen, IsHeld, AllHeld, turns, turns_left, turns_of_size}
+use Rattle.solver.specs.Opened.{AllHeld, turns, turns_of_size}
+use Rattle.solver.specs.Walks.{opens, SameOpen, turns_left}
 
 module _ (c d : Contents) (g : Grown c d) where
   pub no_fewer : length c.trees ≤ length d.trees
@@ -18,18 +18,21 @@ module _ (c d : Contents) (g : Grown c d) where
   size_stays : (n : ℕ) → n < length c.trees → size_at d.trees n ≡ size_at c.trees n
   size_stays n l = sym (ap size (get_or-take (length c.trees) d.trees n nil l)) ∙ ap (λ m. size_at m n) g.front
 
-  pub held_stay : (os : List Open) → All (IsHeld c.trees) os → All (IsHeld d.trees) os
+  pub held_stay : (os : List Open) → AllHeld c.trees os → AllHeld d.trees os
   held_stay os held = λ k o l. omega (arith, held k o l, no_fewer)
 
-  pub turns_stay : (os : List Open) → All (IsHeld c.trees) os → sum_by (turns d.trees) os ≡ sum_by (turns c.trees) os
+  pub turns_stay : (os : List Open) → AllHeld c.trees os → sum_by (turns d.trees) os ≡ sum_by (turns c.trees) os
   turns_stay [] held = refl
   turns_stay (o ∷ os) held =
       let own : turns d.trees o ≡ turns c.trees o = ap (λ n. (o.places.end - o.places.start + 1) * turns_of_size n) (size_stays o.term (held 0 o (omega arith))) in
       let rest = turns_stay os (λ k p l. held (suc k) p (omega (arith, l))) in
       omega (arith, own, rest, sum_by-cons (turns d.trees) o os, sum_by-cons (turns c.trees) o os)
 
-pub same_turns : (a b : Canonicalizer) → SameOpen a b → AllHeld a → turns_left b ≡ turns_left a
-same_turns a b s held = ap (sum_by (turns b.store.now.trees)) s.opened ∙ turns_stay a.store.now b.store.now s.grown (opens a) held
+pub still_held : (a : Canonicalizer) (d : Contents) → Grown a.store.now d → AllHeld d.trees (opens a)
+still_held a d g = held_stay a.store.now d g (opens a) a.held
+
+pub same_turns : (a b : Canonicalizer) → SameOpen a b → turns_left b ≡ turns_left a
+same_turns a b s = ap (sum_by (turns b.store.now.trees)) s.opened ∙ turns_stay a.store.now b.store.now s.grown (opens a) a.held
 
 pub some_turns : (n : ℕ) → 0 < turns_of_size n
 some_turns n = omega (arith, one-le-pow n (2 ^ 64 + 1) (omega arith))

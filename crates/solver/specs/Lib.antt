@@ -5,4 +5,5 @@ pub mod Names
 pub mod Caches
 pub mod Parts
 pub mod Sizes
+pub mod Opened
 pub mod Walks

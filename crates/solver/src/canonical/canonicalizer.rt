@@ -2,12 +2,11 @@
 ghost use Rattle.std.specs.Prelude.{◌≡◌, ◌+◌, ◌*◌, ◌^◌, ◌<◌, ◌≤◌, true, length, IfOk, IfErr, OnOk};
 ghost use Rattle.solver.specs.Goals.{leaf_variable, known};
 ghost use Rattle.solver.specs.Sizes.{size_at};
-ghost use Rattle.solver.specs.Walks.{SameOpen, AllHeld, IsHeld, turns, turns_left, turns_of_size};
+ghost use Rattle.solver.specs.Opened.{AllHeld, IsHeld, turns, turns_of_size};
 ghost use Rattle.solver.specs.Numbers.{call_number, of_goal};
 
 use crate::canonical::fault::GoalFault;
 use crate::canonical::forms::{Form, Part, form_in_goal};
-use crate::canonical::names::Name;
 use crate::canonical::scratch::{Open, Scratch, put_reserved};
 use crate::canonical::{CallFault, CanonicalGoal, Goal, Question};
 use host::PlainHost;
@@ -50,16 +49,19 @@ const NAMES: Flags = Flags {
         | Flags::ERASED.bits,
 };
 
-// The walks over the parts of one goal, and the part that is walked.
+// The walks over the parts of one goal, and the part that is walked. The terms that are open are in the store.
 #[derive(Drop)]
 struct Canonicalizer<'a, 's> {
     store: &'a mut Store<'s>,
     host: &'a PlainHost,
     tables: &'a mut Scratch,
     part: Part,
+    ghost held: { AllHeld store.now.trees tables.now.opened.items },
 }
 
 impl Canonicalizer<'_, '_> {
+    ghost use Rattle.solver.specs.Walks.{SameOpen, turns_left};
+
     // A leaf, rewritten. It refuses 4, then 13, then 15, then 2.
     fn rewrite_leaf(&mut self, term: Handle, leaf: Leaf) -> Result<Handle, GoalFault>
         ensures { SameOpen self.old self.new }
@@ -86,9 +88,7 @@ impl Canonicalizer<'_, '_> {
 
     // Begins a term: it is rewritten at once, or opened.
     fn visit(&mut self, term: Handle) -> Result<(), GoalFault>
-        requires { AllHeld self.old }
-        ensures held { OnOk result (AllHeld self.new) }
-        ensures turns { OnOk result (turns_left self.new ≤ turns_left self.old + 2 ^ 64 * turns_of_size (size_at self.old.store.now.trees term)) }
+        ensures { OnOk result (turns_left self.new ≤ turns_left self.old + 2 ^ 64 * turns_of_size (size_at self.old.store.now.trees term)) }
     {
         if let Some(result) = self.tables.cache.get(term) {
             return Ok(put_reserved(&mut self.tables.waiting, result)?);
@@ -108,10 +108,8 @@ impl Canonicalizer<'_, '_> {
 
     // Opens a term over parts, or leaves it as it is.
     fn open_over(&mut self, term: Handle, head: Head, count: usize) -> Result<(), StoreFault>
-        requires held { AllHeld self.old }
-        requires own { term < length self.old.store.now.trees }
-        ensures held { OnOk result (AllHeld self.new) }
-        ensures turns { OnOk result (turns_left self.new ≤ turns_left self.old + 2 ^ 64 * turns_of_size (size_at self.old.store.now.trees term)) }
+        requires { term < length self.old.store.now.trees }
+        ensures { OnOk result (turns_left self.new ≤ turns_left self.old + 2 ^ 64 * turns_of_size (size_at self.old.store.now.trees term)) }
     {
         if self.is_settled(term, head)? {
             return put_reserved(&mut self.tables.waiting, term);
@@ -141,10 +139,8 @@ impl Canonicalizer<'_, '_> {
 
     // One turn of a walk: the innermost open term goes on to its next part, or ends.
     fn turn(&mut self, mut innermost: Open) -> Result<(), GoalFault>
-        requires held { AllHeld self.old }
-        requires own { IsHeld self.old.store.now.trees innermost }
-        ensures held { OnOk result (AllHeld self.new) }
-        ensures turns { OnOk result (turns_left self.new < turns_left self.old + turns self.old.store.now.trees innermost) }
+        requires { IsHeld self.old.store.now.trees innermost }
+        ensures { OnOk result (turns_left self.new < turns_left self.old + turns self.old.store.now.trees innermost) }
     {
         let Some(place) = innermost.places.next() else {
             return Ok(self.finish(innermost)?);
@@ -157,7 +153,6 @@ impl Canonicalizer<'_, '_> {
     // Rewrites one part of a goal.
     fn rewrite(&mut self, part: Part, root: Handle) -> Result<Handle, GoalFault> {
         self.part = part;
-        self.tables.opened.clear();
         self.tables.waiting.clear();
         self.visit(root)?;
         while let Some(open) = self.tables.opened.pop() {
@@ -168,7 +163,7 @@ impl Canonicalizer<'_, '_> {
 
     // Rewrites the environment, the value and the opaque pairs. Static stays in the environment alone, so that its results
     // do not serve the other two.
-    fn rewrite_goal(&mut self, goal: Goal) -> Result<Goal, GoalFault>
+    fn rewrite_parts(&mut self, goal: Goal) -> Result<Goal, GoalFault>
         ensures { IfOk result (λ g. g.mode ≡ goal.mode) }
     {
         self.tables.names.clear();
@@ -183,45 +178,6 @@ impl Canonicalizer<'_, '_> {
             opaques,
             mode: goal.mode,
         })
-    }
-
-    // Adds a list that has for each name, in order, what is made of it.
-    fn add_list<F: Fn(&mut Store, Name) -> Result<Handle, StoreFault>>(
-        &mut self,
-        sort: ListSort,
-        element: F,
-    ) -> Result<Handle, StoreFault>
-        requires { F.IsAlwaysCallable element }
-    {
-        let Scratch { names, waiting, .. } = &mut *self.tables;
-        waiting.clear();
-        for name in names.as_slice() {
-            let x = element(self.store, *name)?;
-            put_reserved(waiting, x)?;
-        }
-        self.store.add(Head::List(sort), waiting.as_slice())
-    }
-
-    fn canonicalize(&mut self, goal: Goal) -> Result<(Question, CanonicalGoal), GoalFault>
-        ensures { IfOk result (λ a. (a.1.max_universe ≡ 0) × (a.1.goal.mode ≡ goal.mode)) }
-    {
-        check_handles(self.store, goal)?;
-        for part in Part::ALL {
-            check_no_canonical(self.store, goal.term(part))?;
-        }
-        let rewritten = self.rewrite_goal(goal)?;
-        let kinds = self.add_list(ListSort::Kinds, |store, name| {
-            store.add_leaf(Leaf::Kind(name.kind))
-        })?;
-        let originals = self.add_list(ListSort::Arguments, |_, name| Ok(name.original))?;
-        Ok((
-            Question { originals },
-            CanonicalGoal {
-                max_universe: 0,
-                kinds,
-                goal: rewritten,
-            },
-        ))
     }
 }
 
@@ -245,6 +201,53 @@ fn check_no_canonical(store: &Store, term: Handle) -> Result<(), GoalFault> {
     Ok(())
 }
 
+// A goal, rewritten with the names that its walks list.
+fn rewrite_goal<'a>(
+    store: &'a mut Store<'_>,
+    host: &'a PlainHost,
+    tables: &'a mut Scratch,
+    goal: Goal,
+) -> Result<Goal, GoalFault>
+    ensures { IfOk result (λ g. g.mode ≡ goal.mode) }
+{
+    tables.opened.clear();
+    let mut canonicalizer = Canonicalizer {
+        store,
+        host,
+        tables,
+        part: Part::Environment,
+    };
+    canonicalizer.rewrite_parts(goal)
+}
+
+// As `canonicalize_goal`, but a refused call leaves the terms that it has added.
+fn canonicalize(
+    store: &mut Store,
+    host: &PlainHost,
+    scratch: &mut Scratch,
+    goal: Goal,
+) -> Result<(Question, CanonicalGoal), GoalFault>
+    ensures { IfOk result (λ a. (a.1.max_universe ≡ 0) × (a.1.goal.mode ≡ goal.mode)) }
+{
+    check_handles(store, goal)?;
+    for part in Part::ALL {
+        check_no_canonical(store, goal.term(part))?;
+    }
+    let rewritten = rewrite_goal(store, host, scratch, goal)?;
+    let kinds = scratch.add_list(store, ListSort::Kinds, |store, name| {
+        store.add_leaf(Leaf::Kind(name.kind))
+    })?;
+    let originals = scratch.add_list(store, ListSort::Arguments, |_, name| Ok(name.original))?;
+    Ok((
+        Question { originals },
+        CanonicalGoal {
+            max_universe: 0,
+            kinds,
+            goal: rewritten,
+        },
+    ))
+}
+
 // Canonicalizes a goal at the host's present moment: the question, which keeps the original values, and the canonical goal.
 // It refuses 1 for a handle, then 11, then what the walk meets first. A refused call adds nothing to the store.
 pub fn canonicalize_goal(
@@ -257,13 +260,7 @@ pub fn canonicalize_goal(
     ensures numbers { IfErr result (λ e. of_goal (call_number e) ≡ true) }
 {
     let len = store.len();
-    let mut canonicalizer = Canonicalizer {
-        store: &mut *store,
-        host,
-        tables: &mut *scratch,
-        part: Part::Environment,
-    };
-    let answer = canonicalizer.canonicalize(goal);
+    let answer = canonicalize(store, host, scratch, goal);
     if answer.is_err() {
         store.cut(len);
     }

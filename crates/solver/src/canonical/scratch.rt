@@ -2,10 +2,11 @@
 ghost use Rattle.std.specs.Prelude.{◌≡◌, [], ◌∷◌, ◌++◌, OnOk, OnErr};
 
 use crate::canonical::cache::Cache;
-use crate::canonical::names::Names;
+use crate::canonical::names::{Name, Names};
 use std::alloc::{AllocError, Global};
 use std::ops::Range;
-use theory::{Handle, Head, StoreFault};
+use terms::Store;
+use theory::{Handle, Head, ListSort, StoreFault};
 
 // Terms that are open at once: a term of the greatest height opens itself, and every second one is a list.
 const MOST_OPEN: usize = 128;
@@ -44,6 +45,24 @@ impl Scratch {
             waiting,
             names,
         })
+    }
+
+    // Adds a list that has for each name, in order, what is made of it.
+    pub(super) fn add_list<F: Fn(&mut Store, Name) -> Result<Handle, StoreFault>>(
+        &mut self,
+        store: &mut Store,
+        sort: ListSort,
+        element: F,
+    ) -> Result<Handle, StoreFault>
+        requires { F.IsAlwaysCallable element }
+    {
+        let Scratch { names, waiting, .. } = self;
+        waiting.clear();
+        for name in names.as_slice() {
+            let x = element(store, *name)?;
+            put_reserved(waiting, x)?;
+        }
+        store.add(Head::List(sort), waiting.as_slice())
     }
 }
 

@@ -3,12 +3,13 @@ use Rattle.std.proofs.Common.{◌+◌, ◌*◌, ◌^◌, ◌≤◌, List, sum_by
 use Rattle.std.proofs.lemmas.Result.{on_ok_weaker}
 use Rattle.solver.specs.declared.canonical.scratch.Open.{Open}
 use Rattle.solver.specs.Sizes.{size_at}
-use Rattle.solver.specs.Walks.{opens, turns, turns_left, turns_of_size}
+use Rattle.solver.specs.Opened.{turns, turns_of_size}
+use Rattle.solver.specs.Walks.{opens, turns_left}
 use Rattle.solver.proofs.Turns.{opened_turns}
 use Rattle.solver.proofs.canonical.canonicalizer.Canonicalizer.open_over.Goals as goal
 
-pub returns-clause-turns : goal.returns-clause-turns
-returns-clause-turns c =
+pub returns : goal.returns
+returns c =
     let m = c.args.self.now.store.now.trees in
     on_ok_weaker c.put_reserved-2.result
     (λ e.
