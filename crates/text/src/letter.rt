@@ -6,6 +6,20 @@ use crate::lex::WordFault;
 use std::fmt;
 use theory::VariableSort;
 
+// The letter of a sort.
+pub fn sort_letter(sort: VariableSort) -> &'static str
+    ensures { result.now ≡ letter sort ∷ [] }
+{
+    match sort {
+        VariableSort::Ty => "t",
+        VariableSort::Int => "i",
+        VariableSort::Float => "f",
+        VariableSort::Region => "r",
+        VariableSort::Const => "c",
+    }
+}
+
+// A sort that is shown by its letter, or read from it.
 #[derive(Clone, Copy)]
 pub struct Letter(pub VariableSort);
 
@@ -13,13 +27,7 @@ impl fmt::Display for Letter {
     ghost output = { λ l. Some (letter l.0 ∷ []) };
 
     fn fmt<W: fmt::Write>(&self, f: &mut fmt::Formatter<W>) -> fmt::Result {
-        f.write_str(match self.0 {
-            VariableSort::Ty => "t",
-            VariableSort::Int => "i",
-            VariableSort::Float => "f",
-            VariableSort::Region => "r",
-            VariableSort::Const => "c",
-        })
+        f.write_str(sort_letter(self.0))
     }
 }
 

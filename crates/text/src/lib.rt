@@ -12,7 +12,7 @@ mod shown;
 mod trouble;
 mod width;
 
-pub use letter::Letter;
+pub use letter::{Letter, sort_letter};
 pub use print::Printer;
 pub use read::{Command, Reader};
 pub use reason::{BadLine, Complaint};
