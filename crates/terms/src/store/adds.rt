@@ -71,6 +71,7 @@ impl Store<'_> {
         requires facts { facts ≡ facts_of (tree_of self.old.trees (cell own.node own.parts.now)) }
         ensures { (result, self.new) ≡ answered self.old (put self.old (tree_of self.old.trees (cell own.entry.node own.entry.parts.now))) }
     {
+        // handed on, so that a cell is hashed once
         let hash = own.digest();
         if let Some(term) = self.locate(hash, own) {
             return Ok(term);
