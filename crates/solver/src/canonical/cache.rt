@@ -5,8 +5,8 @@ ghost use Rattle.solver.specs.Caches.{vacant, kept_in, held};
 use std::alloc::{AllocError, Global};
 use theory::{Handle, MOST_ENTRIES};
 
-// A result with its round, and no Option: a new round forgets all results in one step, where emptying the places at each goal
-// would write 65,535 of them.
+// A result with its round: a new round forgets all results in one step. Tried with a table of Option, of which a goal empties
+// 65,535 places twice: 3 times the instructions on a script of 200 small goals, reading and printing counted.
 #[derive(Clone, Copy)]
 struct Cached {
     round: u32,
