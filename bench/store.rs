@@ -569,7 +569,7 @@ mod hash {
         for part in parts {
             part.hash(&mut state);
         }
-        (state.finish() >> 32) as u32
+        (state.finish() & 0xffff_ffff) as u32
     }
 }
 
