@@ -1,5 +1,5 @@
 // Walks that ask only the store: the first leaf with a flag. Types hold constants and constants hold types, through lists of
-// arguments: a term and its parts are walked by functions that call each other, with falling height.
+// arguments: one function walks a term and then its parts, with falling rank.
 #![tactic(auto)]
 
 mod fault;
