@@ -44,9 +44,11 @@ impl Hasher for WordHasher {
         self.state.wrapping_mul(LAST) >> 32
     }
 
-    // Four and eight bytes are a number, and so one word; of all else each byte is one.
+    // Two, four and eight bytes are a number, and so one word; of all else each byte is one.
     fn write(&mut self, bytes: &[u8]) {
-        if bytes.len() == 4 {
+        if bytes.len() == 2 {
+            self.take(u64::from(u16::from_le_bytes([bytes[0], bytes[1]])));
+        } else if bytes.len() == 4 {
             let number = u32::from_le_bytes([bytes[0], bytes[1], bytes[2], bytes[3]]);
             self.take(u64::from(number));
         } else if bytes.len() == 8 {
