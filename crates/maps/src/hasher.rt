@@ -18,13 +18,16 @@ pub struct WordHasher {
 impl Default for WordHasher {
     ghost is_default = { λ h. h ≡ started };
 
+    #[tactic(auto, unfolding(crate::specs::Hashing::started))]
     fn default() -> WordHasher {
         WordHasher { state: 0 }
     }
 }
 
 impl WordHasher {
-    // Takes one word more. The high half is laid over the low one too, since the last step drops what lies high.
+    // Takes one word more. Its high half is laid over its low half too: only some of the middle bits choose a bucket, and by
+    // multiplying what lies high alone never comes down to them.
+    #[tactic(auto, unfolding(crate::specs::Hashing::stepped))]
     fn take(&mut self, word: u64)
         ensures { self.new ≡ stepped self.old word }
     {
@@ -40,6 +43,7 @@ impl Hasher for WordHasher {
 
     ghost finish = { finished };
 
+    #[tactic(auto, unfolding(crate::specs::Hashing::finished))]
     fn finish(&self) -> u64 {
         self.state.wrapping_mul(LAST) >> 32
     }

@@ -196,7 +196,8 @@ impl Places {
 
     // How many places have to be filled.
     pub fn least(self) -> usize
-        ensures { result ≤ 4 }
+        ensures count { result ≡ length self.first.now }
+        ensures few { result ≤ 4 }
     {
         self.first.len()
     }

@@ -1,4 +1,4 @@
-use Rattle.std.proofs.Common.{◌≡◌, ◌<◌, map, set, take, get_or, sym, refl, ap, ◌∙◌, subst, arith}
+use Rattle.std.proofs.Common.{◌≡◌, ◌<◌, map, set, take, sym, refl, subst, arith}
 use Rattle.maps.specs.declared.slot.Slot.{Slot}
 use Rattle.maps.specs.Means.{pair_of, IsIndexed}
 use Rattle.maps.specs.Pairs.{revalued}
