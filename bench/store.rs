@@ -351,57 +351,55 @@ mod theory {
     };
 }
 
-mod fold {
-    // The hasher of Rattle's std: as there, but for its reads of bytes.
+mod hasher {
+    // The hasher of the index.
     use std::hash::Hasher;
 
-    const MULTIPLIER: u64 = 0x9e37_79b9_7f4a_7c15;
+    const STEP: u64 = 0x6e04_f309_2edb_ecb3;
 
-    pub struct FoldHasher {
+    const LAST: u64 = 0x39e4_a6fa_6dd7_78f3;
+
+    pub struct WordHasher {
         state: u64,
     }
 
-    impl Default for FoldHasher {
-        fn default() -> FoldHasher {
-            FoldHasher {
-                state: 0x243f_6a88_85a3_08d3,
-            }
+    impl Default for WordHasher {
+        fn default() -> WordHasher {
+            WordHasher { state: 0 }
         }
     }
 
-    fn folded_multiply(a: u64, b: u64) -> u64 {
-        let product = a as u128 * b as u128;
-        product as u64 ^ (product >> 64) as u64
-    }
-
-    fn read_u32(bytes: &[u8], at: usize) -> u64 {
-        u32::from_le_bytes([bytes[at], bytes[at + 1], bytes[at + 2], bytes[at + 3]]) as u64
-    }
-
-    fn read_short(bytes: &[u8]) -> u64 {
-        let len = bytes.len();
-        if len >= 4 {
-            read_u32(bytes, 0) | read_u32(bytes, len - 4) << 32
-        } else if len > 0 {
-            bytes[0] as u64 | (bytes[len / 2] as u64) << 8 | (bytes[len - 1] as u64) << 16
-        } else {
-            0
+    impl WordHasher {
+        // Takes one word more.
+        fn take(&mut self, word: u64) {
+            self.state = self
+                .state
+                .wrapping_mul(STEP)
+                .wrapping_add(word ^ (word >> 32));
         }
     }
 
-    impl Hasher for FoldHasher {
+    impl Hasher for WordHasher {
         fn finish(&self) -> u64 {
-            self.state
+            self.state.wrapping_mul(LAST) >> 32
         }
 
-        // No write of an entry's hash is longer than 8 bytes.
+        // Two, four and eight bytes are a number, and so one word; of all else each byte is one.
         fn write(&mut self, bytes: &[u8]) {
-            let len = bytes.len();
-            assert!(len <= 8);
-            self.state = folded_multiply(
-                self.state ^ read_short(bytes),
-                MULTIPLIER ^ (2 * len as u64),
-            );
+            if bytes.len() == 2 {
+                self.take(u64::from(u16::from_le_bytes([bytes[0], bytes[1]])));
+            } else if bytes.len() == 4 {
+                let number = u32::from_le_bytes([bytes[0], bytes[1], bytes[2], bytes[3]]);
+                self.take(u64::from(number));
+            } else if bytes.len() == 8 {
+                self.take(u64::from_le_bytes([
+                    bytes[0], bytes[1], bytes[2], bytes[3], bytes[4], bytes[5], bytes[6], bytes[7],
+                ]));
+            } else {
+                for byte in bytes {
+                    self.take(u64::from(*byte));
+                }
+            }
         }
     }
 }
@@ -557,13 +555,13 @@ mod forms {
 mod hash {
     // The hash of an entry, by which the store's index finds it. No contract above the store mentions it.
 
-    use crate::fold::FoldHasher;
+    use crate::hasher::WordHasher;
     use crate::theory::{Handle, Node};
     use std::hash::{Hash, Hasher};
 
     // The hash of an entry with these parts.
     pub fn hash_of(node: Node, parts: &[Handle]) -> u32 {
-        let mut state = FoldHasher::default();
+        let mut state = WordHasher::default();
         node.hash(&mut state);
         // how many they are stands in the node
         for part in parts {

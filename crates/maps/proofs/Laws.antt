@@ -1,25 +1,25 @@
 -- Inserting is what a map's user takes it for: the key and what is alike have the value, and nothing else changes.
-use Rattle.std.proofs.Common.{◌≡◌, ℕ, zero, suc, ◌%◌, ◌^◌, ◌<◌, ◌≤◌, Bool, true, false, ◌&&◌, eqb, ltb, List, [], ◌∷◌, ◌++◌, length, Some, None, Ok, Err, Result, Option as Maybe, sym, refl, ap, ◌∙◌, ⊎_elim, arith}
+use Rattle.std.proofs.Common.{◌≡◌, ℕ, zero, suc, ◌%◌, ◌^◌, ◌<◌, ◌≤◌, Bool, true, false, ◌&&◌, eqb, ltb, List, [], ◌∷◌, ◌++◌, length, Some, None, Ok, Err, Result, Option as Maybe, sym, refl, ap, ◌∙◌, subst, ⊎_elim, arith}
 use mathlib.Core.Option.{Option, none, some}
 use Rattle.std.proofs.lemmas.Bool.{cases_Bool, cond_both, cond-true, cond-false, both_ways, eq-eqb, and_from, lt-ltb, le-ltb}
 use Rattle.std.proofs.lemmas.List.{length_push}
 use Rattle.std.specs.Cmp.{IsEquivalence}
 use Rattle.std.specs.Hash.{HashWrites}
-use Rattle.std.specs.Hash.FoldHasher.{initial, write, finish}
+use Rattle.maps.specs.Hashing.{started, written, finished}
 use Rattle.std.specs.List.{fold}
 use Rattle.theory.specs.declared.words.StoreFault.{StoreFault}
 use Rattle.theory.specs.declared.words.StoreFault.TheVariants.{Full}
 use Rattle.theory.specs.Outcomes.{at}
 use Rattle.maps.specs.Chains.{newest, place_of}
 use Rattle.maps.specs.Keys.{digest}
-use Rattle.maps.specs.Pairs.{Pair, pair, Table, agrees, hit, place, value_in, value_at, found, revalued, insert_at, inserted, ReadsAs}
+use Rattle.maps.specs.Pairs.{Pair, pair, Table, IsBounded, agrees, hit, place, value_in, value_at, found, revalued, insert_at, inserted, ReadsAs}
 use Rattle.maps.proofs.Newest.{newest_le, newest-hit, newest_here, newest_past, newest_same}
 use Rattle.maps.proofs.Tables.{agrees_is, hit_is}
 
 -- keys that are equal have one digest
 pub one_digest : {K : Type 0} {alike : K → K → Bool} {input : K → HashWrites} → ((x y : K) → alike x y ≡ true → input x ≡ input y) → (x y : K) → alike x y ≡ true → digest input x ≡ digest input y
 unfolding digest
-one_digest fed x y e = ap (λ w. finish (fold write initial w) % 2 ^ 32) (fed x y e)
+one_digest fed x y e = ap (λ w. finished (fold written started w) % 2 ^ 32) (fed x y e)
 
 -- Elements after a push, and after a value is replaced
 
@@ -34,10 +34,17 @@ module _ {A : Type 0} where
   at_new (x ∷ xs) y = at_new xs y
 
 module _ {K V : Type 0} where
-  length-revalued : (ps : List (Pair K V)) (i : ℕ) (v : V) → length (revalued ps i v) ≡ length ps
+  pub length-revalued : (ps : List (Pair K V)) (i : ℕ) (v : V) → length (revalued ps i v) ≡ length ps
   length-revalued [] i v = refl
   length-revalued (p ∷ ps) zero v = refl
   length-revalued (p ∷ ps) (suc i) v = ap suc (length-revalued ps i v)
+
+  -- another value, and one pair more where there is room, keep the pairs within the room
+  pub bounded_revalued : (t u : Table K V) (i : ℕ) (v : V) → IsBounded t → u ≡ record t { pairs = revalued t.pairs i v } → IsBounded u
+  bounded_revalued t u i v b e = subst IsBounded (sym e) (omega (arith, length-revalued t.pairs i v, b.0), b.1)
+
+  pub bounded_more : (t u : Table K V) (p : Pair K V) → IsBounded t → length t.pairs < t.room → u ≡ record t { pairs = t.pairs ++ p ∷ [] } → IsBounded u
+  bounded_more t u p b l e = subst IsBounded (sym e) (omega (arith, length_push t.pairs p, l), b.1)
 
   revalued_other : (ps : List (Pair K V)) (i j : ℕ) (v : V) → (j ≡ i → ⊥) → at (revalued ps i v) j ≡ at ps j
   revalued_other [] i j v ne = refl

@@ -10,7 +10,7 @@ use Rattle.std.specs.Cmp.{first_so, second_so}
 use Rattle.theory.specs.Outcomes.{at}
 use Rattle.maps.specs.declared.slot.Slot.{Slot}
 use Rattle.maps.specs.Chains.{newest, place_of, Sought}
-use Rattle.maps.specs.Pairs.{Pair, Table, agrees, hit, place, value_in, value_at, found}
+use Rattle.maps.specs.Pairs.{Pair, Table, IsBounded, agrees, hit, place, value_in, value_at, found}
 use Rattle.maps.specs.Means.{pair_of, table, IsIndexed}
 use Rattle.maps.proofs.Newest.{newest_le, newest_is, newest_none}
 use Rattle.maps.proofs.Elements.{at_in, at_out}
@@ -25,6 +25,9 @@ module _ {K V : Type 0} {ss : List (Slot K V)} {hd : List ℕ} {n limit : ℕ} (
 
   pub room_is : t.room ≡ limit
   room_is = ap (λ u. u.room) (sym is)
+
+  pub bounded : IsBounded t
+  bounded = (omega (arith, many_pairs, room_is, m.within), omega (arith, room_is, m.few))
 
   pub pair_at : (i : ℕ) (s : Slot K V) → i < n → at t.pairs i ≡ some (pair_of (get_or ss i s))
   pair_at i s l =

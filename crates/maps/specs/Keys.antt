@@ -2,7 +2,7 @@
 use Rattle.std.specs.Prelude.{ℕ, ◌%◌, ◌^◌}
 use Rattle.std.specs.List.{fold}
 use Rattle.std.specs.Hash.{HashWrites}
-use Rattle.std.specs.Hash.FoldHasher.{initial, write, finish}
+use Rattle.maps.specs.Hashing.{started, written, finished}
 
 unfoldable pub digest : {K : Type 0} → (K → HashWrites) → K → ℕ
-digest input k = finish (fold write initial (input k)) % 2 ^ 32
+digest input k = finished (fold written started (input k)) % 2 ^ 32

@@ -1,4 +1,5 @@
 pub mod Chains
+pub mod Hashing
 pub mod Keys
 pub mod Room
 pub mod Pairs

@@ -1,9 +1,10 @@
 -- What the calls of a map answer, over the list of its pairs in the order in which their keys were first inserted.
 -- A pair is kept with the digest (hash) of its key; keys that are alike have one digest.
-use Rattle.std.specs.Prelude.{◌≡◌, ℕ, zero, suc, Bool, false, cond, ◌&&◌, List, [], ◌∷◌, ◌++◌, length, Some, None, Ok, Err, Option as Maybe, Result, ◌==◌, nat_lt}
+use Rattle.std.specs.Prelude.{◌≡◌, ℕ, zero, suc, ◌≤◌, Bool, false, cond, ◌&&◌, List, [], ◌∷◌, ◌++◌, length, Some, None, Ok, Err, Option as Maybe, Result, ◌==◌, nat_lt}
 use Rattle.std.proofs.Math.Option.{Option, none, some}
 use Rattle.theory.specs.declared.words.StoreFault.{StoreFault}
 use Rattle.theory.specs.declared.words.StoreFault.TheVariants.{Full}
+use Rattle.theory.specs.Limits.{most_entries}
 use Rattle.theory.specs.Outcomes.{at}
 use Rattle.maps.specs.Chains.{newest, place_of}
 
@@ -19,6 +20,10 @@ pair k v d = record { key = k; value = v; digest = d }
 pub record Table (K V : Type 0) : Type 0 where
   pub pairs : List (Pair K V)
   pub room : ℕ
+
+-- what stands true of every map: its pairs fit into its room, and no map has more than an index can name
+abbrev pub IsBounded : {K V : Type 0} → Table K V → Type 0
+IsBounded t = (length t.pairs ≤ t.room) × (t.room ≤ most_entries)
 
 -- key and value of the pair at a place
 abbrev pub shown : {K V : Type 0} → Option (Pair K V) → Maybe (K × V)

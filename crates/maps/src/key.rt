@@ -3,7 +3,8 @@
 ghost use Rattle.std.specs.Prelude.{◌≡◌};
 ghost use Rattle.maps.specs.Keys.{digest};
 
-use std::hash::{FoldHasher, Hash, Hasher};
+use crate::hasher::WordHasher;
+use std::hash::{Hash, Hasher};
 use theory::Universe;
 
 // The number of a type variable.
@@ -23,7 +24,7 @@ pub struct Placeholder {
 pub fn digest<K: Hash>(key: &K) -> u32
     ensures { result ≡ digest K.hash_input key.now }
 {
-    let mut hasher = FoldHasher::default();
+    let mut hasher = WordHasher::default();
     key.hash(&mut hasher);
     (hasher.finish() & 0xffff_ffff) as u32
 }

@@ -2,6 +2,7 @@
 #![tactic(auto)]
 
 mod chain;
+mod hasher;
 mod key;
 mod map;
 mod room;

@@ -1,6 +1,6 @@
 // What a form becomes in the store, once its numbers and parts are read.
-ghost use Rattle.std.specs.Prelude.{◌≡◌, Some, None, IfSome, MatchOption};
-ghost use Rattle.text.specs.Forms.{form_sort, made_sort};
+ghost use Rattle.std.specs.Prelude.{◌≡◌, Some, None, IfSome, MatchOption, is_some};
+ghost use Rattle.text.specs.Forms.{form_sort, made_sort, has_numbers};
 ghost use Rattle.text.specs.Widths.{Fits};
 
 use crate::form::Form;
@@ -59,7 +59,8 @@ impl Numbers {
 
 // What a form makes with its numbers; nothing where one is missing or does not fit.
 pub fn made_of(form: Form, numbers: Numbers) -> Option<Made>
-    ensures { IfSome result (λ m. made_sort m ≡ form_sort form) }
+    ensures sort { IfSome result (λ m. made_sort m ≡ form_sort form) }
+    ensures there { is_some result ≡ has_numbers form numbers }
 {
     Some(match form {
         Form::Constructor => Made::Over(Head::Constructor(numbers.last()?)),

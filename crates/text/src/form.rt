@@ -174,12 +174,14 @@ pub struct Places {
 impl Places {
     fn just(first: &'static [Place]) -> Places
         requires { length first.now ≤ 4 }
+        ensures { result.first.now ≡ first.now }
     {
         Places { first, rest: None }
     }
 
     fn then(first: &'static [Place], rest: Want) -> Places
         requires { length first.now ≤ 4 }
+        ensures { result.first.now ≡ first.now }
     {
         Places {
             first,
@@ -194,7 +196,8 @@ impl Places {
 
     // How many places have to be filled.
     pub fn least(self) -> usize
-        ensures { result ≤ 4 }
+        ensures count { result ≡ length self.first.now }
+        ensures few { result ≤ 4 }
     {
         self.first.len()
     }
@@ -214,7 +217,9 @@ impl Verb {
 }
 
 impl Form {
-    fn places(self) -> Places {
+    fn places(self) -> Places
+        ensures { length result.first.now ≤ 2 }
+    {
         match self {
             Form::Constructor | Form::Alias | Form::Function | Form::Unevaluated => Places::then(
                 &[NUMBER],

@@ -17,8 +17,9 @@ pub fn first_flagged(store: &Store, term: Handle, flags: Flags) -> Result<Option
         return Ok(Some(leaf));
     }
     let parts = store.parts(term)?;
-    for part in parts {
-        if let Some(leaf) = first_flagged(store, *part, flags)? {
+    // By place: so a must-fail edit leaves out the first part and nothing else of the loop is another.
+    for place in 0..parts.len() {
+        if let Some(leaf) = first_flagged(store, parts[place], flags)? {
             return Ok(Some(leaf));
         }
     }

@@ -2,7 +2,7 @@
 ghost use Rattle.std.specs.Prelude.{◌≡◌, ◌+◌, ◌-◌, ◌<◌, [], ◌∷◌, ◌++◌, length, take, is_ok, IfSome};
 ghost use Rattle.theory.specs.Outcomes.{at as elem};
 ghost use Rattle.maps.specs.Keys.{digest};
-ghost use Rattle.maps.specs.Pairs.{pair as pair_with, place as place_of_key, found, revalued, inserted, shown, ReadsAs};
+ghost use Rattle.maps.specs.Pairs.{pair as pair_with, place as place_of_key, found, revalued, inserted, shown, ReadsAs, IsBounded};
 
 use crate::chain::{put_first, seek, take_first};
 use crate::key::digest;
@@ -17,6 +17,7 @@ impl<K: Copy + Eq + Hash, V: Copy> Map<'_, K, V> {
         requires { hash ≡ digest K.hash_input key }
         ensures place { result ≡ place_of_key K.eq (digest K.hash_input) self.now.pairs key }
         ensures within { IfSome result (λ i. i < length self.now.pairs) }
+        ensures few { IsBounded self.now }
     {
         if self.buckets.is_empty() {
             return None;
@@ -28,7 +29,8 @@ impl<K: Copy + Eq + Hash, V: Copy> Map<'_, K, V> {
 
     // The value of a key.
     pub fn get(&self, key: K) -> Option<V>
-        ensures { result ≡ found K.eq (digest K.hash_input) self.now.pairs key }
+        ensures answer { result ≡ found K.eq (digest K.hash_input) self.now.pairs key }
+        ensures few { IsBounded self.now }
     {
         let place = self.locate(digest(&key), key)?;
         // As a slice first: only then is it known that the place is inside.
@@ -38,7 +40,8 @@ impl<K: Copy + Eq + Hash, V: Copy> Map<'_, K, V> {
 
     // The pair at a place, in the order in which keys were first inserted.
     pub fn pair(&self, place: usize) -> Option<(K, V)>
-        ensures { result ≡ shown (elem self.now.pairs place) }
+        ensures answer { result ≡ shown (elem self.now.pairs place) }
+        ensures few { IsBounded self.now }
     {
         if place >= self.len {
             return None;
@@ -56,7 +59,8 @@ impl<K: Copy + Eq + Hash, V: Copy> Map<'_, K, V> {
     {
         // As a slice first: only then is it known that the place is inside.
         let slots = &mut *self.slots;
-        slots[place].value = value;
+        let old = slots[place];
+        slots[place] = Slot { value, ..old };
     }
 
     // One more pair, at the front of its bucket's chain.
@@ -79,6 +83,7 @@ impl<K: Copy + Eq + Hash, V: Copy> Map<'_, K, V> {
     pub fn insert(&mut self, key: K, value: V) -> Result<(), StoreFault>
         ensures after { (result, self.new) ≡ inserted K.eq (digest K.hash_input) self.old key value }
         ensures law { ReadsAs K.eq (digest K.hash_input) self.old.pairs key value (is_ok result) self.new.pairs }
+        ensures few { IsBounded self.new }
     {
         let hash = digest(&key);
         if let Some(place) = self.locate(hash, key) {
@@ -105,7 +110,8 @@ impl<K: Copy + Eq + Hash, V: Copy> Map<'_, K, V> {
 
     // Forgets every pair; it takes as long as there are pairs, not buckets.
     pub fn clear(&mut self)
-        ensures { self.new ≡ record self.old { pairs = [] } }
+        ensures after { self.new ≡ record self.old { pairs = [] } }
+        ensures few { IsBounded self.new }
     {
         while self.len() > 0 {
             self.shorten();

@@ -7,6 +7,7 @@ ghost use Rattle.terms.specs.Hash.{hashed};
 ghost use Rattle.terms.specs.Memory.{cell, tree_of};
 ghost use Rattle.terms.specs.Interning.{Proper, Located, Addable, room_for};
 ghost use Rattle.terms.specs.Survey.{Passed};
+ghost use Rattle.terms.specs.Whole.{IsWhole};
 
 use crate::cell::Cell;
 use crate::forms::{NO_FACTS, facts_of_leaf, join_facts, least_parts, takes_part, top_facts};
@@ -20,7 +21,8 @@ impl Store<'_> {
     fn locate(&self, hash: u32, sought: Cell) -> Option<Handle>
         requires hash { hash ≡ hashed sought.node sought.parts.now }
         requires proper { Proper self.now.trees (cell sought.node sought.parts.now) }
-        ensures { Located self.now.trees (tree_of self.now.trees (cell sought.entry.node sought.entry.parts.now)) result }
+        ensures place { Located self.now.trees (tree_of self.now.trees (cell sought.entry.node sought.entry.parts.now)) result }
+        ensures whole { IsWhole self.now }
     {
         if self.buckets.is_empty() {
             return None;
@@ -45,6 +47,7 @@ impl Store<'_> {
         requires addable { Addable self.old (cell own.node own.parts.now) facts }
         ensures value { result ≡ length self.old.trees }
         ensures after { self.new ≡ with_tree self.old (tree_of self.old.trees (cell own.entry.node own.entry.parts.now)) }
+        ensures whole { IsWhole self.new }
     {
         let Cell { node, parts } = own;
         let len = self.len;
@@ -69,7 +72,8 @@ impl Store<'_> {
     fn intern(&mut self, own: Cell, facts: Facts) -> Result<Handle, StoreFault>
         requires proper { Proper self.old.trees (cell own.node own.parts.now) }
         requires facts { facts ≡ facts_of (tree_of self.old.trees (cell own.node own.parts.now)) }
-        ensures { (result, self.new) ≡ answered self.old (put self.old (tree_of self.old.trees (cell own.entry.node own.entry.parts.now))) }
+        ensures answer { (result, self.new) ≡ answered self.old (put self.old (tree_of self.old.trees (cell own.entry.node own.entry.parts.now))) }
+        ensures whole { IsWhole self.new }
     {
         // handed on, so that a cell is hashed once
         let hash = own.digest();
@@ -91,7 +95,8 @@ impl Store<'_> {
     // Adds a leaf: refuses 2 where it is not held and there is no room.
     #[tactic(auto, unfolding(theory::specs::Store::add_leaf))]
     pub fn add_leaf(&mut self, leaf: Leaf) -> Result<Handle, StoreFault>
-        ensures { (result, self.new) ≡ leaf_added self.old leaf }
+        ensures answer { (result, self.new) ≡ leaf_added self.old leaf }
+        ensures whole { IsWhole self.new }
     {
         let own = Cell {
             node: Node::Leaf(leaf),
@@ -102,8 +107,11 @@ impl Store<'_> {
 
     // What is found of a head over parts: refuses 1 at the first handle that names nothing or part that does not fit.
     fn survey(&self, head: Head, parts: &[Handle]) -> Result<Facts, StoreFault>
-        ensures { Passed self.now head parts.now result }
+        ensures answer { Passed self.now head parts.now result }
+        ensures whole { IsWhole self.now }
     {
+        // asked for what is known by it of the store, also where there is no part to read
+        let _ = self.len();
         let mut all = NO_FACTS;
         for (k, part) in parts.iter().enumerate() {
             let e = self.entry(*part)?;
@@ -120,7 +128,8 @@ impl Store<'_> {
 
     // Adds a head over the terms at handles: refuses 1, then finds it where it is held, then refuses 2, then 3.
     pub fn add(&mut self, head: Head, parts: &[Handle]) -> Result<Handle, StoreFault>
-        ensures { (result, self.new) ≡ node_added self.old head parts.now }
+        ensures answer { (result, self.new) ≡ node_added self.old head parts.now }
+        ensures whole { IsWhole self.new }
     {
         let facts = self.survey(head, parts)?;
         let own = Cell {

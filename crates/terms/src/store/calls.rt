@@ -48,7 +48,8 @@ impl Store<'_> {
     // The part of a term at a place.
     #[tactic(auto, using(crate::proofs::Reading::part_refused))]
     pub fn part(&self, term: Handle, place: usize) -> Result<Handle, StoreFault>
-        ensures { result ≡ part_at self.now.trees term place }
+        ensures answer { result ≡ part_at self.now.trees term place }
+        ensures whole { IsWhole self.now }
     {
         let parts = self.parts(term)?;
         parts.get(place).copied().ok_or(StoreFault::BadPart(place))
@@ -64,7 +65,8 @@ impl Store<'_> {
 
     // The sort of a term.
     pub fn sort(&self, term: Handle) -> Result<Sort, StoreFault>
-        ensures { result ≡ sort_at self.now.trees term }
+        ensures answer { result ≡ sort_at self.now.trees term }
+        ensures whole { IsWhole self.now }
     {
         Ok(self.entry(term)?.node.sort())
     }
@@ -73,7 +75,8 @@ impl Store<'_> {
 impl Store<'_> {
     // Whether two handles name equal terms. Equal terms have one handle, so this is whether they are one.
     pub fn is_same(&self, a: Handle, b: Handle) -> Result<bool, StoreFault>
-        ensures { result ≡ same_at self.now.trees a b }
+        ensures answer { result ≡ same_at self.now.trees a b }
+        ensures whole { IsWhole self.now }
     {
         self.entry(a)?;
         self.entry(b)?;

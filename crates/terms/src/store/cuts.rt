@@ -1,6 +1,7 @@
 // Cutting a store back, for calls that change all or nothing.
 ghost use Rattle.std.specs.Prelude.{◌≡◌, ◌-◌, ◌<◌, length};
 ghost use Rattle.theory.specs.Store.{cut_back};
+ghost use Rattle.terms.specs.Whole.{IsWhole};
 
 use crate::store::Store;
 use maps::take_first;
@@ -20,7 +21,8 @@ impl Store<'_> {
 
     // Keeps the first `len` terms; a store that is shorter stays as it is.
     pub fn cut(&mut self, len: usize)
-        ensures { self.new ≡ cut_back self.old len }
+        ensures after { self.new ≡ cut_back self.old len }
+        ensures whole { IsWhole self.new }
     {
         while self.len() > len {
             self.shorten();

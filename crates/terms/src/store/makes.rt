@@ -15,7 +15,8 @@ impl<'a> Store<'a> {
         buckets: &'a mut [u32],
         items: &'a mut [Handle],
     ) -> Store<'a>
-        ensures { result ≡ empty (length entries.old) (length buckets.old) (length items.old) }
+        ensures held { result ≡ empty (length entries.old) (length buckets.old) (length items.old) }
+        ensures whole { IsWhole result }
     {
         buckets.fill(0);
         let limit = limit_of(entries.len(), buckets.len());

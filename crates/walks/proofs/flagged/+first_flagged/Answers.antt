@@ -36,7 +36,7 @@ first_flagged-requires t c = (
     arith,
     c.decreases,
     part_lower c.args.store.now c.facts.ensures.whole c.args.term c.args.flags.bits c.in_default.field-0 c.in_default.field-1 (ap Ok (sym c.in_default.is) ∙ c.in_ok-leaf.ensures.answer)
-        c.in_ok-parts.parts.now c.in_ok-parts.ensures.answer c.loop-part.part-index c.loop-part-test.true,
+        c.in_ok-parts.parts.now c.in_ok-parts.ensures.answer c.loop-place.place c.loop-place-test.true,
   ),
   tt,
 )
@@ -44,21 +44,21 @@ first_flagged-requires t c = (
 pub returns-in_err-leaf-2 : goal.returns-in_err-leaf-2
 returns-in_err-leaf-2 t c =
     answer_never c.args.store.now c.facts.ensures.whole c.args.term c.args.flags.bits c.in_default.field-0 c.in_default.field-1 (ap Ok (sym c.in_default.is) ∙ c.in_ok-leaf.ensures.answer)
-    c.in_ok-parts.parts.now c.in_ok-parts.ensures.answer c.loop-part.part-index c.loop-part-test.true _ c.in_err-leaf-2.ensures
+    c.in_ok-parts.parts.now c.in_ok-parts.ensures.answer c.loop-place.place c.loop-place-test.true _ c.in_err-leaf-2.ensures
 
 pub returns-in-Some : goal.returns-in-Some
 returns-in-Some t c =
     found_here c.args.store.now c.facts.ensures.whole c.args.term c.args.flags.bits c.in_default.field-0 c.in_default.field-1 (ap Ok (sym c.in_default.is) ∙ c.in_ok-leaf.ensures.answer)
-    c.in_ok-parts.parts.now c.in_ok-parts.ensures.answer c.loop-part.part-index c.loop-part-test.true
-    c.loop-part.invariant c.in-Some.leaf (ap Ok (sym c.in-Some.is) ∙ c.in_ok-leaf-2.ensures)
+    c.in_ok-parts.parts.now c.in_ok-parts.ensures.answer c.loop-place.place c.loop-place-test.true
+    c.loop-place.invariant c.in-Some.leaf (ap Ok (sym c.in-Some.is) ∙ c.in_ok-leaf-2.ensures)
 
-pub loop-part-preserved : goal.loop-part-preserved
-loop-part-preserved t c =
+pub loop-place-preserved : goal.loop-place-preserved
+loop-place-preserved t c =
     go_on c.args.store.now c.facts.ensures.whole c.args.term c.args.flags.bits c.in_default.field-0 c.in_default.field-1 (ap Ok (sym c.in_default.is) ∙ c.in_ok-leaf.ensures.answer)
-    c.in_ok-parts.parts.now c.in_ok-parts.ensures.answer c.loop-part.part-index c.loop-part-test.true
-    c.loop-part.invariant (ap Ok (sym c.in_default-2.is) ∙ c.in_ok-leaf-2.ensures)
+    c.in_ok-parts.parts.now c.in_ok-parts.ensures.answer c.loop-place.place c.loop-place-test.true
+    c.loop-place.invariant (ap Ok (sym c.in_default-2.is) ∙ c.in_ok-leaf-2.ensures)
 
 pub returns : goal.returns
 returns t c =
     none_left c.args.store.now c.facts.ensures.whole c.args.term c.args.flags.bits c.in_default.field-0 c.in_default.field-1 (ap Ok (sym c.in_default.is) ∙ c.in_ok-leaf.ensures.answer)
-    c.in_ok-parts.parts.now c.in_ok-parts.ensures.answer c.loop-part.part-index c.loop-part-test.false c.loop-part.invariant
+    c.in_ok-parts.parts.now c.in_ok-parts.ensures.answer c.loop-place.place c.loop-place-test.false c.loop-place.invariant

@@ -8,7 +8,7 @@ abbrev pub decreases-first_flagged : goal.decreases-first_flagged
 decreases-first_flagged l = rank (get_or l.store.now.trees l.term nil)
 
 -- what is left of the parts decides
-abbrev pub invariant-loop-part : goal.invariant-loop-part
-invariant-loop-part l =
-    first_among (flagged l.flags.bits) (drop l.part-index (parts (get_or l.store.trees l.term nil)))
+abbrev pub invariant-loop-place : goal.invariant-loop-place
+invariant-loop-place l =
+    first_among (flagged l.flags.bits) (drop l.place (parts (get_or l.store.trees l.term nil)))
     ≡ first_among (flagged l.flags.bits) (parts (get_or l.store.trees l.term nil))

@@ -6,4 +6,7 @@ pub returns : goal.returns
 returns g c =
     let m = c.self.invariant in
     let inside : c.in_ok-place.place < c.self.inside.len = omega (arith, many_pairs m c.self.view_is, c.in_ok-place.ensures.within) in
-    found_at _ _ _ _ c.in_ok-place.place _ c.in_ok-place.ensures.place (pair_at m c.self.view_is c.in_ok-place.place _ inside)
+    record {
+      answer = found_at _ _ _ _ c.in_ok-place.place _ c.in_ok-place.ensures.place (pair_at m c.self.view_is c.in_ok-place.place _ inside);
+      few = c.in_ok-place.ensures.few;
+    }

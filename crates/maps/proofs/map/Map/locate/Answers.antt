@@ -1,5 +1,5 @@
 use Rattle.std.proofs.Common.{rules}
-use Rattle.maps.proofs.Tables.{place_is, place_in}
+use Rattle.maps.proofs.Tables.{bounded, place_is, place_in}
 use Rattle.maps.proofs.map.Map.locate.Goals as goal
 
 pub returns-clause-place : goal.returns-clause-place
@@ -7,3 +7,6 @@ returns-clause-place g c = rw (← c.self.view_is) (place_is _ _ _ _ _ c.require
 
 pub returns-clause-within : goal.returns-clause-within
 returns-clause-within g c = place_in _ _ _ _ _ (returns-clause-place g c)
+
+pub returns-clause-few : goal.returns-clause-few
+returns-clause-few g c = bounded c.self.invariant c.self.view_is

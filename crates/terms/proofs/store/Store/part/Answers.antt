@@ -11,8 +11,8 @@ copied_at : (xs : List ℕ) (k : ℕ) (o : Option (Bor ℕ)) → MatchOption o (
 copied_at xs k None h = sym (slice_get_past xs k h)
 copied_at xs k (Some x) h = sym (slice_get_read xs (length xs) k x.now refl h.0 (h.1 x.now))
 
-pub returns : goal.returns
-returns c =
+pub returns-clause-answer : goal.returns-clause-answer
+returns-clause-answer c =
     c.ok_or.ensures.value
     ∙ ap (λ o. ok_or o (BadPart c.args.place)) (c.copied.ensures ∙ copied_at c.in_ok-parts.parts.now c.args.place c.get.result c.get.ensures.lookup.3)
     ∙ part_of_parts c.args.self.now.trees c.args.term c.args.place c.in_ok-parts.parts.now c.in_ok-parts.ensures.answer

@@ -8,6 +8,7 @@ use Rattle.terms.specs.Memory.{cell, tree_of}
 use Rattle.terms.specs.Interning.{Addable}
 use Rattle.terms.specs.Means.{trees_of, means}
 use Rattle.terms.proofs.Pushed.{entry_left, items_left, trees-after, sound_after}
+use Rattle.terms.proofs.Reading.{whole}
 use Rattle.terms.proofs.store.Store.push.Goals as goal
 
 -- the items in use after the parts are written
@@ -47,3 +48,6 @@ returns-clause-after c =
     let a : Addable (means s) (cell e.node ps) e.facts = subst (λ (m : Contents). Addable m (cell e.node ps) e.facts) (sym c.self.view_is) c.requires.addable in
     let items = written s.items.now ps c.copy_from_slice.new.self s.used (omega (arith, w.inside, w.lent_items)) c.copy_from_slice.ensures.after in
     rw (c.put_first-next.ensures.next, ← c.self.view_is) (ap (λ ts. record { trees = ts; entries = s.limit; items = s.room }) (trees-after s w e ps a refl c.requires.hash refl _ items))
+
+pub returns-clause-whole : goal.returns-clause-whole
+returns-clause-whole c = whole _ (invariant_of-self c)

@@ -5,8 +5,8 @@ use Rattle.terms.specs.Survey.{surveyed}
 use Rattle.terms.proofs.Surveys.{pass_refused, pass_accepted, step_missing, step_bad, step_more, end_bad, end_ok}
 use Rattle.terms.proofs.store.Store.survey.Goals as goal
 
-pub returns-in_err-e : goal.returns-in_err-e
-returns-in_err-e c =
+pub returns-in_err-e-clause-answer : goal.returns-in_err-e-clause-answer
+returns-in_err-e-clause-answer c =
     let m = c.args.self.now in
     let l = c.loop-k in
     let p = err_from_is_err_and c.from_residual.result c.from_residual.ensures.1 in
@@ -14,8 +14,8 @@ returns-in_err-e c =
     (pass_refused m c.args.head c.args.parts.now _
     (step_missing m.trees c.args.head l.k c.args.parts.now c.loop-k-test.true l.all _ c.in_err-e.ensures.reads.form ∙ l.invariant.rest))
 
-pub returns-then-not-takes_part : goal.returns-then-not-takes_part
-returns-then-not-takes_part c =
+pub returns-then-not-takes_part-clause-answer : goal.returns-then-not-takes_part-clause-answer
+returns-then-not-takes_part-clause-answer c =
     let m = c.args.self.now in
     let l = c.loop-k in
     pass_refused m c.args.head c.args.parts.now _
@@ -34,15 +34,15 @@ loop-k-preserved c =
       low = omega (arith, r.low, l.invariant.low, ap (λ (f : Facts). f.height) c.join_facts-all.ensures);
     }
 
-pub returns-then-parts-least_parts : goal.returns-then-parts-least_parts
-returns-then-parts-least_parts c =
+pub returns-then-parts-least_parts-clause-answer : goal.returns-then-parts-least_parts-clause-answer
+returns-then-parts-least_parts-clause-answer c =
     let m = c.args.self.now in
     let l = c.loop-k in
     pass_refused m c.args.head c.args.parts.now _
     (end_bad m.trees c.args.head l.k c.args.parts.now (omega arith) l.all (omega (arith, c.least_parts.ensures, c.if-parts-least_parts.true)) ∙ l.invariant.rest)
 
-pub returns : goal.returns
-returns c =
+pub returns-clause-answer : goal.returns-clause-answer
+returns-clause-answer c =
     let m = c.args.self.now in
     let l = c.loop-k in
     pass_accepted m c.args.head c.args.parts.now _

@@ -14,4 +14,4 @@ parts-value-requires t c = (
 
 pub value-parts-requires : goal.value-parts-requires
 value-parts-requires t c =
-    (omega (arith, c.decreases, part_before c.args.self.now.store.now c.get.ensures.whole c.args.value 0 c.in_ok-list-in-Over.list c.in_ok-list-in-Over.ensures), tt)
+    (omega (arith, c.decreases, part_before c.args.self.now.store.now c.get.ensures.whole c.args.value 0 c.in_ok-list-in-Over.list c.in_ok-list-in-Over.ensures.answer), tt)

@@ -21,5 +21,5 @@ returns c =
     let left : o.places.start < o.places.end = search rules in
     let start : c.next.new.self.start ≡ o.places.start + 1 = search rules in
     let end : c.next.new.self.end ≡ o.places.end = search rules in
-    let step = next_turn m o c.in_ok-part.part c.next.new.self.start c.next.new.self.end left start end (part_smaller m o.term c.in-Some.place c.in_ok-part.part c.in_ok-part.ensures) in
+    let step = next_turn m o c.in_ok-part.part c.next.new.self.start c.next.new.self.end left start end (part_smaller m o.term c.in-Some.place c.in_ok-part.part c.in_ok-part.ensures.answer) in
     on_ok_weaker c.visit.result (λ l. omega (arith, pushed, step, l)) c.visit.ensures
